@@ -1,0 +1,6 @@
+pub mod Runs
+pub mod Digits
+pub mod Parts
+pub mod Days
+pub mod Sums
+pub mod Fits

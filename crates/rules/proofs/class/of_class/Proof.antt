@@ -1,0 +1,15 @@
+-- `rules::class::of_class` meets its contract, test by test.
+use Rattle.rules.specs.Class.{ofClass}
+use borrow.Author.Needs.{needs}
+use Rattle.rules.proofs.class.of_class.Statement.{statement}
+use Rattle.rules.proofs.class.of_class.Tie as tie
+
+all-of-requires : tie.Need-all-of-requires
+all-of-requires c κs = search needs
+
+returns : tie.Need-returns
+unfolding ofClass
+returns c = rw (c .all-of .ensures)
+
+pub of-class-spec : {M : Type 1} → statement M
+of-class-spec = tie.close (tie.spec all-of-requires returns)

@@ -1,0 +1,67 @@
+-- The bytes that document 01 names, the classes of bytes that its rules speak of, and fields made of one class.
+use Prim.Native.Nat.{ℕ}
+use mathlib.Core.Bool.{Bool, true, not, _&&_, _||_}
+use mathlib.Core.List.{List}
+use lib.Dec.{eqb}
+use lib.ListN.{length, drop, getD}
+use Rattle.cells.specs.Bytes.{within, all, run}
+use Rattle.rules.specs.declared.class.Class.{Class}
+use Rattle.rules.specs.declared.class.Class.the-variants.{Any, Allowed, Digit, Capital, Account, Blank, Zero, Unbarred, DigitOrX}
+
+-- allowed bytes: 32 to 126 and 160 to 255
+abbrev pub allowed : ℕ → Bool
+allowed b = within 32 126 b || within 160 255 b
+
+-- blank means byte 32
+abbrev pub blank : ℕ → Bool
+blank b = eqb b 32
+
+abbrev pub digit : ℕ → Bool
+digit b = within 48 57 b
+
+-- the digit 0
+abbrev pub zeroDigit : ℕ → Bool
+zeroDigit b = eqb b 48
+
+-- capitals are A to Z
+abbrev pub capital : ℕ → Bool
+capital b = within 65 90 b
+
+abbrev pub star : ℕ → Bool
+star b = eqb b 42
+
+-- the letter X, which stands for ten
+abbrev pub letterX : ℕ → Bool
+letterX b = eqb b 88
+
+-- * + : ? '
+abbrev pub barred : ℕ → Bool
+barred b = star b || (eqb b 43 || (eqb b 58 || (eqb b 63 || eqb b 39)))
+
+-- a byte is of a class
+unfoldable pub belongs : Class → ℕ → Bool
+belongs Any b = true
+belongs Allowed b = allowed b
+belongs Digit b = digit b
+belongs Capital b = capital b
+belongs Account b = digit b || capital b
+belongs Blank b = blank b
+belongs Zero b = zeroDigit b
+belongs Unbarred b = not (barred b)
+belongs DigitOrX b = digit b || letterX b
+
+-- bytes of a class only
+unfoldable pub allOf : Class → List ℕ → Bool
+allOf c s = all (belongs c) s
+
+-- least to most bytes of a class
+unfoldable pub ofClass : Class → ℕ → ℕ → List ℕ → Bool
+ofClass c least most s = within least most (length s) && allOf c s
+
+-- least to most bytes of a class, then blanks only
+unfoldable pub padded : Class → ℕ → ℕ → List ℕ → Bool
+padded c least most s = within least most (run (belongs c) s) && allOf Blank (drop (run (belongs c) s) s)
+
+-- all blank, or first byte not blank; bytes of a class only
+unfoldable pub named : Class → List ℕ → Bool
+named c s = allOf c s && (allOf Blank s || not (blank (getD s 0 0)))

@@ -1,0 +1,6 @@
+pub mod Class
+pub mod Number
+pub mod Day
+pub mod Article
+pub mod Rule
+pub mod Values

@@ -1,0 +1,28 @@
+-- What the bytes of a field that keeps its rule say.
+use Prim.Native.Nat.{ℕ}
+use mathlib.Core.List.{List}
+use Rattle.cells.specs.Bytes.{pick}
+use Rattle.rules.specs.Number.{number}
+use Rattle.rules.specs.Day.{dayOf}
+use Rattle.rules.specs.Class.{allOf}
+use Rattle.rules.specs.declared.class.Class.the-variants.{Blank, Zero}
+use Rattle.rules.specs.declared.amount.Price.{Price}
+use Rattle.rules.specs.declared.amount.Discount.{Discount}
+use Rattle.rules.specs.declared.amount.Copies.{Copies}
+use Rattle.rules.specs.declared.expected.Expected.{Expected}
+use Rattle.rules.specs.declared.expected.Expected.the-variants.{On, Zeros, Blanks}
+
+-- price in ten-thousandths of the currency
+abbrev pub priceOf : List ℕ → Price
+priceOf s = record { 0 = number s }
+
+-- discount in ten-thousandths of a percent
+abbrev pub discountOf : List ℕ → Discount
+discountOf s = record { 0 = number s }
+
+abbrev pub copiesOf : List ℕ → Copies
+copiesOf s = record { 0 = number s }
+
+-- which of the three an expected date was
+unfoldable pub expectedOf : List ℕ → Expected
+expectedOf s = pick (allOf Zero s) Zeros (pick (allOf Blank s) Blanks (On (dayOf s)))

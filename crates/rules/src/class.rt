@@ -1,0 +1,114 @@
+// Classes of bytes, and fields made of one class.
+ghost use mathlib.Core.Path.{_≡_};
+ghost use Rattle.cells.specs.Bytes.{within, run};
+ghost use Rattle.rules.specs.Class.{belongs, allOf, ofClass, padded, named};
+use cells::part;
+
+pub const BLANK: u8 = 32;
+
+pub const STAR: u8 = 42;
+
+pub const PLUS: u8 = 43;
+
+pub const COLON: u8 = 58;
+
+pub const QUESTION: u8 = 63;
+
+pub const APOSTROPHE: u8 = 39;
+
+pub const ZERO: u8 = 48;
+
+pub const NINE: u8 = 57;
+
+pub const LETTER_A: u8 = 65;
+
+pub const LETTER_X: u8 = 88;
+
+pub const LETTER_Z: u8 = 90;
+
+pub enum Class {
+    Any,
+    Allowed,
+    Digit,
+    Capital,
+    // A digit or a capital.
+    Account,
+    Blank,
+    Zero,
+    // Not one of * + : ? '
+    Unbarred,
+    DigitOrX,
+}
+
+fn between(least: u8, most: u8, b: u8) -> bool
+    ensures { λ r. ⌜ r ≡ within least most b ⌝ }
+{
+    (least <= b) & (b <= most)
+}
+
+// Whether a byte is of a class.
+pub fn belongs_to(c: Class, b: u8) -> bool
+    ensures { λ r. ⌜ r ≡ belongs c b ⌝ }
+{
+    match c {
+        Class::Any => true,
+        Class::Allowed => between(32, 126, b) | between(160, 255, b),
+        Class::Digit => between(ZERO, NINE, b),
+        Class::Capital => between(LETTER_A, LETTER_Z, b),
+        Class::Account => between(ZERO, NINE, b) | between(LETTER_A, LETTER_Z, b),
+        Class::Blank => b == BLANK,
+        Class::Zero => b == ZERO,
+        Class::Unbarred => {
+            !((b == STAR) | ((b == PLUS) | ((b == COLON) | ((b == QUESTION) | (b == APOSTROPHE)))))
+        }
+        Class::DigitOrX => between(ZERO, NINE, b) | (b == LETTER_X),
+    }
+}
+
+// How many bytes at the front are of a class.
+pub fn run_of(c: Class, s: &[u8]) -> usize
+    ensures { λ r. ⌜ r ≡ run (belongs c) (now (s .entry)) ⌝ }
+{
+    let mut i: usize = 0;
+    while i < s.len() {
+        if !belongs_to(c, s[i]) {
+            return i;
+        }
+        i += 1;
+    }
+    i
+}
+
+// Whether each byte is of a class.
+pub fn all_of(c: Class, s: &[u8]) -> bool
+    ensures { λ r. ⌜ r ≡ allOf c (now (s .entry)) ⌝ }
+{
+    run_of(c, s) == s.len()
+}
+
+// Whether there are least to most bytes, all of a class.
+pub fn of_class(c: Class, least: usize, most: usize, s: &[u8]) -> bool
+    ensures { λ r. ⌜ r ≡ ofClass c least most (now (s .entry)) ⌝ }
+{
+    let n = s.len();
+    ((least <= n) & (n <= most)) & all_of(c, s)
+}
+
+// Whether least to most bytes of a class stand in front, and then blanks only.
+pub fn is_padded(c: Class, least: usize, most: usize, s: &[u8]) -> bool
+    ensures { λ r. ⌜ r ≡ padded c least most (now (s .entry)) ⌝ }
+{
+    let n = run_of(c, s);
+    ((least <= n) & (n <= most)) & all_of(Class::Blank, part(s, n, s.len()))
+}
+
+// Whether bytes of a class are all blank, or the first is not.
+pub fn is_named(c: Class, s: &[u8]) -> bool
+    ensures { λ r. ⌜ r ≡ named c (now (s .entry)) ⌝ }
+{
+    if s.len() == 0 {
+        return true;
+    }
+    let first = s[0];
+    all_of(c, s) & (all_of(Class::Blank, s) | (first != BLANK))
+}

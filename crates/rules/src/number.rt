@@ -1,0 +1,30 @@
+// Numbers in decimal digits.
+ghost use mathlib.Core.Path.{_≡_};
+ghost use Prim.Native.Nat.{_-_, _≤_};
+ghost use lib.ListN.{length};
+ghost use Rattle.rules.specs.Number.{digitValue, number};
+use crate::class::ZERO;
+
+// What a digit counts; a byte below 0 counts nothing.
+pub fn digit_value(b: u8) -> u64
+    ensures { λ r. ⌜ (r ≡ digitValue b) × (r ≤ 207) ⌝ }
+{
+    if b < ZERO {
+        return 0;
+    }
+    (b - ZERO) as u64
+}
+
+// The number that at most fifteen digits spell.
+pub fn number_of(s: &[u8]) -> u64
+    requires { ⌜ length (now s) ≤ 15 ⌝ }
+    ensures { λ r. ⌜ r ≡ number (now (s .entry)) ⌝ }
+{
+    let mut n: u64 = 0;
+    let mut i: usize = 0;
+    while i < s.len() {
+        n = n * 10 + digit_value(s[i]);
+        i += 1;
+    }
+    n
+}
