@@ -1,6 +1,6 @@
 -- Lists compared and copied, a byte at a time.
-use mathlib.Core.Path.{_≡_, refl, sym, ap, _∙_}
-use mathlib.Core.Bool.{Bool, true, false, _&&_}
+use mathlib.Core.Path.{_≡_, refl, sym, ap, ap₂, _∙_}
+use mathlib.Core.Bool.{Bool, true, false, _&&_, false≢true}
 use mathlib.Core.List.{List, [], _∷_, _++_}
 use Prim.Native.Nat.{ℕ, zero, suc, _+_, _≤_, _<_}
 use native.Mathlib.Nat.{add-zero, add-suc}
@@ -9,9 +9,9 @@ use native.Mathlib.Omega.{arith}
 use lib.Dec.{eqb}
 use lib.ListN.{length, getD, drop, set}
 use lib.Seq.{drop-cons, drop-length, sets, sets-eq}
-use borrow.Author.Tests.{eq-eqb, ne-eqb}
+use borrow.Author.Tests.{eq-eqb, ne-eqb, eqb-true}
 use Rattle.cells.specs.Bytes.{same}
-use Rattle.cells.proofs.Bools.{and-false}
+use Rattle.cells.proofs.Bools.{and-false, and-left, and-right}
 
 -- lists of different lengths are not the same
 pub same-lengths : (a b : List ℕ) → (length a ≡ length b → ⊥) → same a b ≡ false
@@ -42,3 +42,17 @@ sets-next d at s i h = ap (sets d (at + i)) (drop-cons s i 0 h) ∙ rw (add-one 
 
 pub sets-end : (d : List ℕ) (at : ℕ) (s : List ℕ) (i : ℕ) → i ≡ length s → sets d (at + i) (drop i s) ≡ d
 sets-end d at s i e = ap (λ (k : ℕ). sets d (at + i) (drop k s)) e ∙ ap (sets d (at + i)) (drop-length s)
+
+-- lists that are the same are equal, and a list is the same as itself
+pub same-true : (a b : List ℕ) → same a b ≡ true → a ≡ b
+unfolding same
+same-true [] [] e = refl
+same-true [] (y ∷ ys) e = absurd (false≢true e)
+same-true (x ∷ xs) [] e = absurd (false≢true e)
+same-true (x ∷ xs) (y ∷ ys) e =
+    ap₂ (λ (z : ℕ) (zs : List ℕ). z ∷ zs) (eqb-true x y (and-left (eqb x y) (same xs ys) e)) (same-true xs ys (and-right (eqb x y) (same xs ys) e))
+
+pub same-refl : (a : List ℕ) → same a a ≡ true
+unfolding same
+same-refl [] = refl
+same-refl (x ∷ xs) = rw (eq-eqb x x refl) (same-refl xs)

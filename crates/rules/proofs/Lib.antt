@@ -4,3 +4,4 @@ pub mod Parts
 pub mod Days
 pub mod Sums
 pub mod Fits
+pub mod Rows

@@ -1,5 +1,6 @@
 -- The field rules as data, and what it means to keep one.
-use Prim.Native.Nat.{ℕ}
+use Prim.Native.Nat.{ℕ, zero, suc}
+use lib.ListN.{take, drop}
 use mathlib.Core.Bool.{Bool, true, _&&_, _||_}
 use mathlib.Core.List.{List, [], _∷_}
 use Rattle.cells.specs.Bytes.{bytes, within, among}
@@ -12,6 +13,11 @@ use Rattle.rules.specs.declared.rule.Texts.{Texts}
 use Rattle.rules.specs.declared.rule.Texts.the-variants.{Party, Numbering, Measure, HoldMark, TaxMark, PartTax, YesOnly, YesOrU, Medium}
 use Rattle.rules.specs.declared.rule.Rule.{Rule}
 use Rattle.rules.specs.declared.rule.Rule.the-variants.{Free, Of, Padded, Named, OneOf, DayCount, Date, ExpectedDate, Article}
+
+-- the texts of a row: so many of them, one after the other, each of one width
+unfoldable pub rowTexts : ℕ → ℕ → List ℕ → List (List ℕ)
+rowTexts width zero row = []
+rowTexts width (suc count) row = take width row ∷ rowTexts width count (drop width row)
 
 -- the texts that a rule names
 unfoldable pub texts : Texts → List (List ℕ)

@@ -1,8 +1,9 @@
 // The field rules as data.
 ghost use mathlib.Core.Path.{_≡_};
+ghost use Prim.Native.Nat.{_≤_};
 ghost use Rattle.cells.specs.Bytes.{among};
 ghost use Rattle.rules.specs.Day.{isDay};
-ghost use Rattle.rules.specs.Rule.{texts, dayCount, expected, keeps};
+ghost use Rattle.rules.specs.Rule.{rowTexts, texts, dayCount, expected, keeps};
 use crate::article::is_article;
 use crate::class::Class;
 use crate::class::is_named;
@@ -11,6 +12,7 @@ use crate::class::of_class;
 use crate::day::Dated;
 use crate::day::Day;
 use crate::number::number_of;
+use cells::part;
 use cells::same;
 
 const MOST_DAYS: u64 = 360;
@@ -46,22 +48,37 @@ pub enum Rule {
     Article,
 }
 
+// Whether a field is one of the texts of a row: `count` texts of one width, one after the other.
+fn is_in_row(s: &[u8], row: &[u8], width: usize, count: usize) -> bool
+    requires { ⌜ (width ≤ 3) × (count ≤ 5) ⌝ }
+    ensures { λ r. ⌜ r ≡ among (now (s .entry)) (rowTexts width count (now (row .entry))) ⌝ }
+{
+    let mut at: usize = 0;
+    let mut i: usize = 0;
+    while i < count {
+        if same(s, part(row, at, at + width)) {
+            return true;
+        }
+        at += width;
+        i += 1;
+    }
+    false
+}
+
 // Whether a field holds one of the texts.
 fn is_one_of(t: Texts, s: &[u8]) -> bool
     ensures { λ r. ⌜ r ≡ among (now (s .entry)) (texts t) ⌝ }
 {
     match t {
-        Texts::Party => same(s, b"VD") | (same(s, b"IB") | same(s, b"SA")),
-        Texts::Numbering => {
-            same(s, b"EN") | (same(s, b"IB") | (same(s, b"KN") | (same(s, b"UM") | same(s, b"RK"))))
-        }
-        Texts::Measure => same(s, b"ST") | same(s, b"NP"),
-        Texts::HoldMark => same(s, b"J") | same(s, b"N"),
-        Texts::TaxMark => same(s, b"0") | (same(s, b"1") | (same(s, b"2") | same(s, b"6"))),
-        Texts::PartTax => same(s, b"0") | (same(s, b"1") | same(s, b"2")),
-        Texts::YesOnly => same(s, b"J"),
-        Texts::YesOrU => same(s, b"J") | same(s, b"U"),
-        Texts::Medium => same(s, b"PHY") | same(s, b"DIG"),
+        Texts::Party => is_in_row(s, b"VDIBSA", 2, 3),
+        Texts::Numbering => is_in_row(s, b"ENIBKNUMRK", 2, 5),
+        Texts::Measure => is_in_row(s, b"STNP", 2, 2),
+        Texts::HoldMark => is_in_row(s, b"JN", 1, 2),
+        Texts::TaxMark => is_in_row(s, b"0126", 1, 4),
+        Texts::PartTax => is_in_row(s, b"012", 1, 3),
+        Texts::YesOnly => is_in_row(s, b"J", 1, 1),
+        Texts::YesOrU => is_in_row(s, b"JU", 1, 2),
+        Texts::Medium => is_in_row(s, b"PHYDIG", 3, 2),
     }
 }
 

@@ -1,0 +1,20 @@
+# Wizqamul. `make test` is the whole gate, `make book FILE=..` the main job.
+
+.PHONY: test book clean
+
+# The layout of every file, then every proof, every must-fail edit and every program.
+test:
+	@rt fmt --check
+	@rt ci
+
+# Prints what is read of each record of a file.
+book: target/bin/papers
+	@test -n "$(FILE)" || { echo "usage: make book FILE=records.bwa" >&2; exit 2; }
+	@target/bin/papers < "$(FILE)"
+
+target/bin/papers: crates.txt $(wildcard crates/*/src/*.rt)
+	@rt check papers > target.log 2>&1 || { cat target.log; rm -f target.log; exit 1; }
+	@rm -f target.log
+
+clean:
+	@rm -rf target

@@ -1,0 +1,102 @@
+-- The fields of a layout, one after the other.
+use mathlib.Core.Path.{_≡_, _∙_, ap, sym, refl}
+use mathlib.Core.Bool.{Bool, true, false, _&&_}
+use mathlib.Core.List.{List, [], _∷_, _++_}
+use Prim.Native.Nat.{ℕ, suc, _+_, _≤_, _<_}
+use native.Mathlib.Numerals.{add-one}
+use native.Mathlib.Omega.{arith}
+use borrow.Author.Tests.{ltb-true, ltb-false}
+use lib.Dec.{ltb}
+use lib.ListN.{length, getD, take, drop, take-append-drop, drop-of-length-le}
+use lib.Seq.{slice, take-suc, take-all, drop-cons, drop-drop}
+use Rattle.cells.proofs.Bools.{split, and-left, and-right}
+use Rattle.cells.proofs.Parts.{take-from, slice-drop}
+use Rattle.rules.specs.Rule.{keeps}
+use Rattle.record.specs.declared.layout.Field.{Field}
+use Rattle.record.specs.declared.layout.Kind.{Kind}
+use Rattle.record.specs.declared.layout.Kind.the-variants.{Order, Goods, Closing, Report}
+use Rattle.record.specs.Layout.{noField, layout, total, startOf, firstBroken}
+
+-- two parts of a layout are as long as both together
+pub total-append : (xs ys : List Field) → total (xs ++ ys) ≡ total xs + total ys
+unfolding total
+total-append [] ys = omega arith
+total-append (x ∷ xs) ys =
+    let ih = total-append xs ys in
+    omega arith
+
+-- a field starts within its layout
+pub start-most : (fs : List Field) (i : ℕ) → startOf fs i ≤ total fs
+unfolding startOf
+start-most fs i = omega (arith, total-append (take i fs) (drop i fs), ap total (take-append-drop i fs))
+
+-- no layout is longer than a delivery's
+pub total-most : (k : Kind) → total (layout k) ≤ 108
+unfolding total layout
+total-most Order = omega arith
+total-most Goods = omega arith
+total-most Closing = omega arith
+total-most Report = omega arith
+
+-- the first field starts where its layout does
+pub start-first : (fs : List Field) → startOf fs 0 ≡ 0
+unfolding startOf total
+start-first fs = refl
+
+-- past the last field all fields start at the end
+pub start-past : (fs : List Field) (i : ℕ) → length fs ≤ i → startOf fs i ≡ total fs
+unfolding startOf
+start-past fs i h = ap total (take-all i fs h)
+
+-- counting up goes on below both ends
+pub below-both : (i a b : ℕ) → ltb i a && ltb i b ≡ true → (i < a) × (i < b)
+below-both i a b e = (ltb-true i a (and-left _ _ e), ltb-true i b (and-right (ltb i a) _ e))
+
+-- and stops at an index, or past the last field, where all start at the end
+pub start-stop : (fs : List Field) (i index : ℕ) → i ≤ index → ltb i index && ltb i (length fs) ≡ false → startOf fs i ≡ startOf fs index
+start-stop fs i index h e =
+    split (ltb i index)
+    (λ p.
+    let q : length fs ≤ i = ltb-false i (length fs) (rw p at e) in
+    start-past fs i q ∙ sym (start-past fs index (omega arith)))
+    (λ p.
+    let q : i ≡ index = omega (arith, ltb-false i index p) in
+    ap (startOf fs) q)
+
+-- past the last field nothing is broken
+pub broken-past : (fs : List Field) (i : ℕ) (s : List ℕ) → length fs ≤ i → firstBroken (drop i fs) s ≡ 0
+unfolding firstBroken
+broken-past fs i s h = rw (drop-of-length-le fs {i = i} h)
+
+-- the field with an index
+module _ (fs : List Field) (i : ℕ) (h : i < length fs) (f : Field) (e : f ≡ getD fs i noField) where
+  -- it stands in front of what is left of the layout
+  pub field-here : drop i fs ≡ f ∷ drop (i + 1) fs
+  field-here = rw (drop-cons fs i noField h, e, add-one i)
+
+  pub total-here : total (drop i fs) ≡ f .size + total (drop (i + 1) fs)
+  unfolding total
+  total-here = ap total field-here
+
+  -- the next field starts behind it
+  pub start-next : startOf fs (i + 1) ≡ startOf fs i + f .size
+  unfolding startOf total
+  start-next =
+      let g : take (i + 1) fs ≡ take i fs ++ (f ∷ []) = rw (add-one i, e) (take-suc fs i noField h) in
+      ap total g ∙ total-append (take i fs) (f ∷ []) ∙ (omega arith)
+
+  -- and judged where it stands
+  module _ (s : List ℕ) (at : ℕ) where
+    pub kept-here : keeps (f .rule) (slice (at + f .size) (at + f .size + 2) s) (slice at (at + f .size) s) ≡ true
+        → firstBroken (drop i fs) (drop at s) ≡ suc (firstBroken (drop (i + 1) fs) (drop (at + f .size) s))
+    unfolding firstBroken
+    kept-here q =
+        let a : at + (f .size + 2) ≡ at + f .size + 2 = omega arith in
+        rw (field-here, take-from (f .size) at s, slice-drop (f .size) (f .size + 2) at s, a, drop-drop (f .size) at s, q)
+
+    pub broken-here : keeps (f .rule) (slice (at + f .size) (at + f .size + 2) s) (slice at (at + f .size) s) ≡ false
+        → firstBroken (drop i fs) (drop at s) ≡ 0
+    unfolding firstBroken
+    broken-here q =
+        let a : at + (f .size + 2) ≡ at + f .size + 2 = omega arith in
+        rw (field-here, take-from (f .size) at s, slice-drop (f .size) (f .size + 2) at s, a, drop-drop (f .size) at s, q)

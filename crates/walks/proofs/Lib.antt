@@ -1,0 +1,5 @@
+pub mod Heads
+pub mod Contents
+pub mod Walked
+pub mod Tables
+pub mod Judged
