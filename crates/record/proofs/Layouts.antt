@@ -1,13 +1,13 @@
 -- The fields of a layout, one after the other.
 use mathlib.Core.Path.{_≡_, _∙_, ap, sym, refl}
-use mathlib.Core.Bool.{Bool, true, false, _&&_}
+use mathlib.Core.Bool.{true, false, _&&_}
 use mathlib.Core.List.{List, [], _∷_, _++_}
-use Prim.Native.Nat.{ℕ, suc, _+_, _≤_, _<_}
+use Prim.Native.Nat.{ℕ, zero, suc, _+_, _≤_, _<_}
 use native.Mathlib.Numerals.{add-one}
 use native.Mathlib.Omega.{arith}
 use borrow.Author.Tests.{ltb-true, ltb-false}
 use lib.Dec.{ltb}
-use lib.ListN.{length, getD, take, drop, take-append-drop, drop-of-length-le}
+use lib.ListN.{length, getD, take, drop, take-append-drop, drop-of-length-le, List·getD-append, List·getD-eq-default}
 use lib.Seq.{slice, take-suc, take-all, drop-cons, drop-drop}
 use Rattle.cells.proofs.Bools.{split, and-left, and-right}
 use Rattle.cells.proofs.Parts.{take-from, slice-drop}
@@ -15,7 +15,39 @@ use Rattle.rules.specs.Rule.{keeps}
 use Rattle.record.specs.declared.layout.Field.{Field}
 use Rattle.record.specs.declared.layout.Kind.{Kind}
 use Rattle.record.specs.declared.layout.Kind.the-variants.{Order, Goods, Closing, Report}
-use Rattle.record.specs.Layout.{noField, layout, total, startOf, firstBroken}
+use Rattle.record.specs.Layout.{noField, head, layout, total, startOf, firstBroken}
+
+-- an index is none of m that follow each other from n
+abbrev pub NoneOf : ℕ → ℕ → ℕ → Type 0
+NoneOf n zero i = Unit
+NoneOf n (suc m) i = NoneOf n m i × (i ≡ n + m → ⊥)
+
+-- so that from n on it stands past them
+pub past-all : (n m i : ℕ) → NoneOf n m i → n ≤ i → n + m ≤ i
+past-all n zero i r h = omega arith
+past-all n (suc m) i r h =
+    let ih = past-all n m i (r .0) h in
+    let ne = r .1 in
+    omega arith
+
+-- every layout begins with the same fields
+pub begins : (k : Kind) → layout k ≡ head ++ drop 5 (layout k)
+unfolding layout
+begins Order = refl
+begins Goods = refl
+begins Closing = refl
+begins Report = refl
+
+-- which are all that stands at an index that is none of the others
+pub head-or-none : (k : Kind) (i : ℕ) → (5 ≤ i → length (layout k) ≤ i) → getD head i noField ≡ getD (layout k) i noField
+head-or-none k i h =
+    split (ltb i 5)
+    (λ e.
+    let q : i < 5 = ltb-true i 5 e in
+    rw (begins k) (sym (List·getD-append head (drop 5 (layout k)) noField i q)))
+    (λ e.
+    let q : 5 ≤ i = ltb-false i 5 e in
+    List·getD-eq-default head noField q ∙ sym (List·getD-eq-default (layout k) noField (h q)))
 
 -- two parts of a layout are as long as both together
 pub total-append : (xs ys : List Field) → total (xs ++ ys) ≡ total xs + total ys
@@ -74,6 +106,7 @@ module _ (fs : List Field) (i : ℕ) (h : i < length fs) (f : Field) (e : f ≡ 
   pub field-here : drop i fs ≡ f ∷ drop (i + 1) fs
   field-here = rw (drop-cons fs i noField h, e, add-one i)
 
+  -- what is left is as long as it and what is left after it
   pub total-here : total (drop i fs) ≡ f .size + total (drop (i + 1) fs)
   unfolding total
   total-here = ap total field-here
@@ -85,8 +118,9 @@ module _ (fs : List Field) (i : ℕ) (h : i < length fs) (f : Field) (e : f ≡ 
       let g : take (i + 1) fs ≡ take i fs ++ (f ∷ []) = rw (add-one i, e) (take-suc fs i noField h) in
       ap total g ∙ total-append (take i fs) (f ∷ []) ∙ (omega arith)
 
-  -- and judged where it stands
+  -- judged where it stands, at a place in s
   module _ (s : List ℕ) (at : ℕ) where
+    -- it keeps its rule: what is found first is found after it
     pub kept-here : keeps (f .rule) (slice (at + f .size) (at + f .size + 2) s) (slice at (at + f .size) s) ≡ true
         → firstBroken (drop i fs) (drop at s) ≡ suc (firstBroken (drop (i + 1) fs) (drop (at + f .size) s))
     unfolding firstBroken
@@ -94,6 +128,7 @@ module _ (fs : List Field) (i : ℕ) (h : i < length fs) (f : Field) (e : f ≡ 
         let a : at + (f .size + 2) ≡ at + f .size + 2 = omega arith in
         rw (field-here, take-from (f .size) at s, slice-drop (f .size) (f .size + 2) at s, a, drop-drop (f .size) at s, q)
 
+    -- it breaks its rule: it is found first
     pub broken-here : keeps (f .rule) (slice (at + f .size) (at + f .size + 2) s) (slice at (at + f .size) s) ≡ false
         → firstBroken (drop i fs) (drop at s) ≡ 0
     unfolding firstBroken

@@ -1,7 +1,9 @@
 // The kinds of records, and the fixed part of each as data.
 ghost use mathlib.Core.Path.{_≡_};
 ghost use lib.ListN.{length, getD};
-ghost use Rattle.record.specs.Layout.{noField, layout, fixedWidth, startOf, kindOf, firstBroken};
+ghost use Rattle.record.specs.Layout.{_∶_, noField, head, layout, fixedWidth, startOf, kindOf, firstBroken};
+ghost use Rattle.rules.specs.declared.rule.Rule.the-variants.{Of};
+ghost use Rattle.record.specs.declared.layout.Kind.the-variants.{Order, Goods, Closing, Report};
 use cells::part;
 use cells::same;
 use rules::class::Class;
@@ -101,156 +103,25 @@ const ARTICLE_QUALIFIER: Field = Field {
     rule: Rule::OneOf(Texts::Numbering),
 };
 
-const ORDER: [Field; 11] = [
-    KIND,
-    ADDRESS,
-    ADDRESS_QUALIFIER,
-    ADDRESS,
-    ADDRESS_QUALIFIER,
-    DATE,
-    ORDER_REFERENCE,
-    ARTICLE,
-    ARTICLE_QUALIFIER,
-    // Quantity, and its qualifier.
-    Field {
-        size: 4,
-        rule: Rule::Of(Class::Digit, 4, 4),
-    },
-    Field {
-        size: 2,
-        rule: Rule::OneOf(Texts::Measure),
-    },
-];
+const MEASURE: Field = Field {
+    size: 2,
+    rule: Rule::OneOf(Texts::Measure),
+};
 
-const GOODS: [Field; 17] = [
-    KIND,
-    ADDRESS,
-    ADDRESS_QUALIFIER,
-    ADDRESS,
-    ADDRESS_QUALIFIER,
-    DATE,
-    SLIP_NUMBER,
-    // Position.
-    Field {
-        size: 4,
-        rule: Rule::Of(Class::Digit, 4, 4),
-    },
-    REFERENCE,
-    ARTICLE,
-    ARTICLE_QUALIFIER,
-    // Quantity, price, price qualifier, currency, discount, tax mark.
-    Field {
-        size: 4,
-        rule: Rule::Of(Class::Digit, 4, 4),
-    },
-    Field {
-        size: 15,
-        rule: Rule::Of(Class::Digit, 15, 15),
-    },
-    Field {
-        size: 2,
-        rule: Rule::Of(Class::Capital, 2, 2),
-    },
-    Field {
-        size: 3,
-        rule: Rule::Of(Class::Capital, 3, 3),
-    },
-    Field {
-        size: 8,
-        rule: Rule::Of(Class::Digit, 8, 8),
-    },
-    Field {
-        size: 1,
-        rule: Rule::OneOf(Texts::TaxMark),
-    },
-];
+const TAX_MARK: Field = Field {
+    size: 1,
+    rule: Rule::OneOf(Texts::TaxMark),
+};
 
-const CLOSING: [Field; 17] = [
-    KIND,
-    ADDRESS,
-    ADDRESS_QUALIFIER,
-    ADDRESS,
-    ADDRESS_QUALIFIER,
-    // Date, slip number, position, reference, article and its qualifier.
-    Field {
-        size: 8,
-        rule: Rule::Of(Class::Zero, 8, 8),
-    },
-    Field {
-        size: 10,
-        rule: Rule::Of(Class::Blank, 10, 10),
-    },
-    Field {
-        size: 4,
-        rule: Rule::Of(Class::Blank, 4, 4),
-    },
-    Field {
-        size: 10,
-        rule: Rule::Of(Class::Blank, 10, 10),
-    },
-    Field {
-        size: 13,
-        rule: Rule::Of(Class::Blank, 13, 13),
-    },
-    Field {
-        size: 2,
-        rule: Rule::Of(Class::Blank, 2, 2),
-    },
-    // Quantity, price, price qualifier, currency, discount, tax mark.
-    Field {
-        size: 4,
-        rule: Rule::Of(Class::Zero, 4, 4),
-    },
-    Field {
-        size: 15,
-        rule: Rule::Of(Class::Zero, 15, 15),
-    },
-    Field {
-        size: 2,
-        rule: Rule::Of(Class::Blank, 2, 2),
-    },
-    Field {
-        size: 3,
-        rule: Rule::Of(Class::Blank, 3, 3),
-    },
-    Field {
-        size: 8,
-        rule: Rule::Of(Class::Zero, 8, 8),
-    },
-    Field {
-        size: 1,
-        rule: Rule::Of(Class::Blank, 1, 1),
-    },
-];
+const HOLD_MARK: Field = Field {
+    size: 1,
+    rule: Rule::OneOf(Texts::HoldMark),
+};
 
-const REPORT: [Field; 13] = [
-    KIND,
-    ADDRESS,
-    ADDRESS_QUALIFIER,
-    ADDRESS,
-    ADDRESS_QUALIFIER,
-    SLIP_NUMBER,
-    REFERENCE,
-    ARTICLE,
-    ARTICLE_QUALIFIER,
-    // Message, hold mark, expected date, partial quantity.
-    Field {
-        size: 3,
-        rule: Rule::Of(Class::Digit, 3, 3),
-    },
-    Field {
-        size: 1,
-        rule: Rule::OneOf(Texts::HoldMark),
-    },
-    Field {
-        size: 8,
-        rule: Rule::ExpectedDate,
-    },
-    Field {
-        size: 4,
-        rule: Rule::Of(Class::Zero, 4, 4),
-    },
-];
+const EXPECTED_DATE: Field = Field {
+    size: 8,
+    rule: Rule::ExpectedDate,
+};
 
 // How many fields a fixed part has.
 pub fn field_count(k: Kind) -> usize
@@ -276,33 +147,115 @@ pub fn fixed_width(k: Kind) -> usize
     }
 }
 
+// Exactly n bytes of a class.
+fn exactly(n: usize, c: Class) -> Field
+    ensures { λ r. ⌜ r ≡ n ∶ Of c n n ⌝ }
+{
+    Field {
+        size: n,
+        rule: Rule::Of(c, n, n),
+    }
+}
+
+// A field of what every record begins with.
+fn head_field(i: usize) -> Field
+    ensures { λ r. ⌜ r ≡ getD head i noField ⌝ }
+{
+    match i {
+        0 => KIND,
+        1 => ADDRESS,
+        2 => ADDRESS_QUALIFIER,
+        3 => ADDRESS,
+        4 => ADDRESS_QUALIFIER,
+        _ => NO_FIELD,
+    }
+}
+
+fn order_field(i: usize) -> Field
+    ensures { λ r. ⌜ r ≡ getD (layout Order) i noField ⌝ }
+{
+    match i {
+        5 => DATE,
+        6 => ORDER_REFERENCE,
+        7 => ARTICLE,
+        8 => ARTICLE_QUALIFIER,
+        // Quantity, and its qualifier.
+        9 => exactly(4, Class::Digit),
+        10 => MEASURE,
+        _ => head_field(i),
+    }
+}
+
+fn goods_field(i: usize) -> Field
+    ensures { λ r. ⌜ r ≡ getD (layout Goods) i noField ⌝ }
+{
+    match i {
+        5 => DATE,
+        6 => SLIP_NUMBER,
+        // Position.
+        7 => exactly(4, Class::Digit),
+        8 => REFERENCE,
+        9 => ARTICLE,
+        10 => ARTICLE_QUALIFIER,
+        // Quantity, price, price qualifier, currency, discount.
+        11 => exactly(4, Class::Digit),
+        12 => exactly(15, Class::Digit),
+        13 => exactly(2, Class::Capital),
+        14 => exactly(3, Class::Capital),
+        15 => exactly(8, Class::Digit),
+        16 => TAX_MARK,
+        _ => head_field(i),
+    }
+}
+
+fn closing_field(i: usize) -> Field
+    ensures { λ r. ⌜ r ≡ getD (layout Closing) i noField ⌝ }
+{
+    match i {
+        // Date, slip number, position, reference, article and its qualifier.
+        5 => exactly(8, Class::Zero),
+        6 => exactly(10, Class::Blank),
+        7 => exactly(4, Class::Blank),
+        8 => exactly(10, Class::Blank),
+        9 => exactly(13, Class::Blank),
+        10 => exactly(2, Class::Blank),
+        // Quantity, price, price qualifier, currency, discount, tax mark.
+        11 => exactly(4, Class::Zero),
+        12 => exactly(15, Class::Zero),
+        13 => exactly(2, Class::Blank),
+        14 => exactly(3, Class::Blank),
+        15 => exactly(8, Class::Zero),
+        16 => exactly(1, Class::Blank),
+        _ => head_field(i),
+    }
+}
+
+fn report_field(i: usize) -> Field
+    ensures { λ r. ⌜ r ≡ getD (layout Report) i noField ⌝ }
+{
+    match i {
+        5 => SLIP_NUMBER,
+        6 => REFERENCE,
+        7 => ARTICLE,
+        8 => ARTICLE_QUALIFIER,
+        // Message, hold mark, expected date, partial quantity.
+        9 => exactly(3, Class::Digit),
+        10 => HOLD_MARK,
+        11 => EXPECTED_DATE,
+        12 => exactly(4, Class::Zero),
+        _ => head_field(i),
+    }
+}
+
 // The field with an index.
 pub fn field_of(k: Kind, i: usize) -> Field
     ensures { λ r. ⌜ r ≡ getD (layout k) i noField ⌝ }
 {
     match k {
-        Kind::Order => { if i < ORDER_FIELDS { ORDER[i] } else { NO_FIELD } }
-        Kind::Goods => {
-            if i < DELIVERY_FIELDS {
-                GOODS[i]
-            } else {
-                NO_FIELD
-            }
-        }
-        Kind::Closing => {
-            if i < DELIVERY_FIELDS {
-                CLOSING[i]
-            } else {
-                NO_FIELD
-            }
-        }
-        Kind::Report => {
-            if i < REPORT_FIELDS {
-                REPORT[i]
-            } else {
-                NO_FIELD
-            }
-        }
+        Kind::Order => order_field(i),
+        Kind::Goods => goods_field(i),
+        Kind::Closing => closing_field(i),
+        Kind::Report => report_field(i),
     }
 }
 

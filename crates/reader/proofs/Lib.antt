@@ -1,0 +1,4 @@
+pub mod Fitting
+pub mod Promises
+pub mod Readings
+pub mod Stages

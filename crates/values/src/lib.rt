@@ -1,0 +1,302 @@
+// The typed values of a record's fixed part, taken from its bytes.
+ghost use mathlib.Core.Path.{_≡_};
+ghost use Prim.Native.Nat.{_+_, _≤_};
+ghost use lib.ListN.{length};
+ghost use lib.Seq.{slice};
+ghost use Rattle.record.specs.Layout.{fixedWidth};
+ghost use Rattle.record.specs.Values.{orderOf, deliveryOf, reportOf, noParty, noArticle, noDay, noOrder, noDelivery, noReport};
+use cells::part;
+use cells::paste_at;
+use record::layout::Kind;
+use record::values::Article;
+use record::values::Delivery;
+use record::values::Order;
+use record::values::Party;
+use record::values::Report;
+use rules::amount::Copies;
+use rules::amount::Discount;
+use rules::amount::Price;
+use rules::amount::copies_of;
+use rules::amount::discount_of;
+use rules::amount::price_of;
+use rules::day::Day;
+use rules::day::day_parts;
+use rules::expected::Expected;
+use rules::expected::expected_of;
+use rules::number::number_of;
+
+// Where the fields start; each ends where the next one starts.
+const SENDER: usize = 4;
+
+const RECIPIENT: usize = 16;
+
+const DATE: usize = 28;
+
+const ORDER_REFERENCE: usize = 36;
+
+const ORDER_ARTICLE: usize = 46;
+
+const ORDER_QUANTITY: usize = 61;
+
+const ORDER_MEASURE: usize = 65;
+
+const SLIP: usize = 36;
+
+const POSITION: usize = 46;
+
+const REFERENCE: usize = 50;
+
+const ARTICLE: usize = 60;
+
+const QUANTITY: usize = 75;
+
+const PRICE: usize = 79;
+
+const PRICING: usize = 94;
+
+const CURRENCY: usize = 96;
+
+const DISCOUNT: usize = 99;
+
+const TAX: usize = 107;
+
+const REPORT_SLIP: usize = 28;
+
+const REPORT_REFERENCE: usize = 38;
+
+const REPORT_ARTICLE: usize = 48;
+
+const MESSAGE: usize = 63;
+
+const HOLD: usize = 66;
+
+const EXPECTED: usize = 67;
+
+const PARTIAL: usize = 75;
+
+// The bytes from a place on as an array, at each width that a field has.
+fn bytes2(s: &[u8], at: usize) -> [u8; 2]
+    requires { ⌜ at + 2 ≤ length (now s) ⌝ }
+    ensures { λ r. ⌜ r ≡ slice at (at + 2) (now (s .entry)) ⌝ }
+{
+    let mut a = [0u8; 2];
+    paste_at(&mut a, 0, part(s, at, at + 2));
+    a
+}
+
+fn bytes3(s: &[u8], at: usize) -> [u8; 3]
+    requires { ⌜ at + 3 ≤ length (now s) ⌝ }
+    ensures { λ r. ⌜ r ≡ slice at (at + 3) (now (s .entry)) ⌝ }
+{
+    let mut a = [0u8; 3];
+    paste_at(&mut a, 0, part(s, at, at + 3));
+    a
+}
+
+fn bytes4(s: &[u8], at: usize) -> [u8; 4]
+    requires { ⌜ at + 4 ≤ length (now s) ⌝ }
+    ensures { λ r. ⌜ r ≡ slice at (at + 4) (now (s .entry)) ⌝ }
+{
+    let mut a = [0u8; 4];
+    paste_at(&mut a, 0, part(s, at, at + 4));
+    a
+}
+
+fn bytes10(s: &[u8], at: usize) -> [u8; 10]
+    requires { ⌜ at + 10 ≤ length (now s) ⌝ }
+    ensures { λ r. ⌜ r ≡ slice at (at + 10) (now (s .entry)) ⌝ }
+{
+    let mut a = [0u8; 10];
+    paste_at(&mut a, 0, part(s, at, at + 10));
+    a
+}
+
+fn bytes13(s: &[u8], at: usize) -> [u8; 13]
+    requires { ⌜ at + 13 ≤ length (now s) ⌝ }
+    ensures { λ r. ⌜ r ≡ slice at (at + 13) (now (s .entry)) ⌝ }
+{
+    let mut a = [0u8; 13];
+    paste_at(&mut a, 0, part(s, at, at + 13));
+    a
+}
+
+// An address and the qualifier after it.
+fn party_at(s: &[u8], at: usize) -> Party
+    requires { ⌜ at + 12 ≤ length (now s) ⌝ }
+    ensures { λ r. ⌜ (r .address ≡ slice at (at + 10) (now (s .entry))) × (r .qualifier ≡ slice (at + 10) (at + 12) (now (s .entry))) ⌝ }
+{
+    let address = bytes10(s, at);
+    let qualifier = bytes2(s, at + 10);
+    Party { address, qualifier }
+}
+
+// An article number and the qualifier after it.
+fn article_at(s: &[u8], at: usize) -> Article
+    requires { ⌜ at + 15 ≤ length (now s) ⌝ }
+    ensures { λ r. ⌜ (r .number ≡ slice at (at + 13) (now (s .entry))) × (r .qualifier ≡ slice (at + 13) (at + 15) (now (s .entry))) ⌝ }
+{
+    let number = bytes13(s, at);
+    let qualifier = bytes2(s, at + 13);
+    Article { number, qualifier }
+}
+
+// The values of a B101.
+pub fn order_of(s: &[u8]) -> Order
+    requires { ⌜ fixedWidth Kind.Order ≤ length (now s) ⌝ }
+    ensures { λ r. ⌜ r ≡ orderOf (now (s .entry)) ⌝ }
+{
+    let sender = party_at(s, SENDER);
+    let recipient = party_at(s, RECIPIENT);
+    let date = day_parts(part(s, DATE, ORDER_REFERENCE));
+    let reference = bytes10(s, ORDER_REFERENCE);
+    let article = article_at(s, ORDER_ARTICLE);
+    let quantity = copies_of(part(s, ORDER_QUANTITY, ORDER_MEASURE));
+    let measure = bytes2(s, ORDER_MEASURE);
+    Order {
+        sender,
+        recipient,
+        date,
+        reference,
+        article,
+        quantity,
+        measure,
+    }
+}
+
+// The values of an L101.
+pub fn delivery_of(s: &[u8]) -> Delivery
+    requires { ⌜ fixedWidth Kind.Goods ≤ length (now s) ⌝ }
+    ensures { λ r. ⌜ r ≡ deliveryOf (now (s .entry)) ⌝ }
+{
+    let sender = party_at(s, SENDER);
+    let recipient = party_at(s, RECIPIENT);
+    let date = day_parts(part(s, DATE, SLIP));
+    let slip = bytes10(s, SLIP);
+    let position = bytes4(s, POSITION);
+    let reference = bytes10(s, REFERENCE);
+    let article = article_at(s, ARTICLE);
+    let quantity = copies_of(part(s, QUANTITY, PRICE));
+    let price = price_of(part(s, PRICE, PRICING));
+    let pricing = bytes2(s, PRICING);
+    let currency = bytes3(s, CURRENCY);
+    let discount = discount_of(part(s, DISCOUNT, TAX));
+    let tax = s[TAX];
+    Delivery {
+        sender,
+        recipient,
+        date,
+        slip,
+        position,
+        reference,
+        article,
+        quantity,
+        price,
+        pricing,
+        currency,
+        discount,
+        tax,
+    }
+}
+
+// The values of an M101.
+pub fn report_of(s: &[u8]) -> Report
+    requires { ⌜ fixedWidth Kind.Report ≤ length (now s) ⌝ }
+    ensures { λ r. ⌜ r ≡ reportOf (now (s .entry)) ⌝ }
+{
+    let sender = party_at(s, SENDER);
+    let recipient = party_at(s, RECIPIENT);
+    let slip = bytes10(s, REPORT_SLIP);
+    let reference = bytes10(s, REPORT_REFERENCE);
+    let article = article_at(s, REPORT_ARTICLE);
+    let message = number_of(part(s, MESSAGE, HOLD));
+    let hold = s[HOLD];
+    let expected = expected_of(part(s, EXPECTED, PARTIAL));
+    Report {
+        sender,
+        recipient,
+        slip,
+        reference,
+        article,
+        message,
+        hold,
+        expected,
+    }
+}
+
+fn no_party() -> Party
+    ensures { λ r. ⌜ r ≡ noParty ⌝ }
+{
+    Party {
+        address: [0u8; 10],
+        qualifier: [0u8; 2],
+    }
+}
+
+fn no_article() -> Article
+    ensures { λ r. ⌜ r ≡ noArticle ⌝ }
+{
+    Article {
+        number: [0u8; 13],
+        qualifier: [0u8; 2],
+    }
+}
+
+fn no_day() -> Day
+    ensures { λ r. ⌜ r ≡ noDay ⌝ }
+{
+    Day {
+        year: 0,
+        month: 0,
+        day: 0,
+    }
+}
+
+// Zeros for all values, as a refusal gives them.
+pub fn no_order() -> Order
+    ensures { λ r. ⌜ r ≡ noOrder ⌝ }
+{
+    Order {
+        sender: no_party(),
+        recipient: no_party(),
+        date: no_day(),
+        reference: [0u8; 10],
+        article: no_article(),
+        quantity: Copies(0),
+        measure: [0u8; 2],
+    }
+}
+
+pub fn no_delivery() -> Delivery
+    ensures { λ r. ⌜ r ≡ noDelivery ⌝ }
+{
+    Delivery {
+        sender: no_party(),
+        recipient: no_party(),
+        date: no_day(),
+        slip: [0u8; 10],
+        position: [0u8; 4],
+        reference: [0u8; 10],
+        article: no_article(),
+        quantity: Copies(0),
+        price: Price(0),
+        pricing: [0u8; 2],
+        currency: [0u8; 3],
+        discount: Discount(0),
+        tax: 0,
+    }
+}
+
+pub fn no_report() -> Report
+    ensures { λ r. ⌜ r ≡ noReport ⌝ }
+{
+    Report {
+        sender: no_party(),
+        recipient: no_party(),
+        slip: [0u8; 10],
+        reference: [0u8; 10],
+        article: no_article(),
+        message: 0,
+        hold: 0,
+        expected: Expected::Zeros,
+    }
+}
