@@ -1,7 +1,8 @@
-// Reads the records on standard input, one to a CR LF, and prints of each the answer, the typed values and the optional fields.
+// Reads the records on standard input, one to a CR LF, prints of each the answer, the typed values and the optional fields, and writes it back.
 ghost use Prim.Native.Nat.{_≤_};
 ghost use lib.ListN.{length};
 use cells::part;
+use cells::same;
 use libc::STDIN_FILENO;
 use libc::STDOUT_FILENO;
 use reader::check;
@@ -11,6 +12,7 @@ use reader::read_report;
 use record::answer::Checked;
 use record::layout::Kind;
 use record::layout::Kinded;
+use record::layout::fixed_width;
 use record::layout::kind_of;
 use record::values::Article;
 use record::values::Delivery;
@@ -19,6 +21,11 @@ use record::values::Party;
 use record::values::Report;
 use rules::day::Day;
 use rules::expected::Expected;
+use writer::write_delivery;
+use writer::write_order;
+use writer::write_report;
+use writing::answer::Written;
+use writing::write;
 
 const CR: u8 = 13;
 
@@ -209,6 +216,55 @@ fn show_fields(s: &[u8], table: &[usize; 192], fields: usize) {
     }
 }
 
+// Whether what was written is the record again.
+fn show_written(how: &[u8], w: Written, out: &[u8; 1024], s: &[u8]) {
+    text(how);
+    if w.answer != 0 {
+        text(b" refused\n");
+        return;
+    }
+    if same(part(out, 0, w.length), s) {
+        text(b" written back\n");
+    } else {
+        text(b" written otherwise\n");
+    }
+}
+
+// The record written from its fixed part's bytes, and from its typed values, with the table that the check filled.
+fn write_back(s: &[u8], table: &[usize; 192], fields: usize) {
+    let mut out = [0u8; 1024];
+    match kind_of(s) {
+        Kinded::Unknown => text(b"  unknown kind\n"),
+        Kinded::Known(k) => {
+            let w = write(part(s, 0, fixed_width(k)), table, fields, s, &mut out);
+            show_written(b"  bytes", w, &out, s);
+            write_values(k, s, table, fields);
+        }
+    }
+}
+
+fn write_values(k: Kind, s: &[u8], table: &[usize; 192], fields: usize) {
+    let mut out = [0u8; 1024];
+    match k {
+        Kind::Order => {
+            let w = write_order(read_order(s).order, table, fields, s, &mut out);
+            show_written(b"  order", w, &out, s);
+        }
+        Kind::Goods => {
+            let w = write_delivery(read_delivery(s).delivery, table, fields, s, &mut out);
+            show_written(b"  delivery", w, &out, s);
+        }
+        Kind::Closing => {
+            let w = write_delivery(read_delivery(s).delivery, table, fields, s, &mut out);
+            show_written(b"  closing record", w, &out, s);
+        }
+        Kind::Report => {
+            let w = write_report(read_report(s).report, table, fields, s, &mut out);
+            show_written(b"  report", w, &out, s);
+        }
+    }
+}
+
 // A record by its answer, values and optional fields.
 fn show(s: &[u8]) {
     let mut table = [0usize; 192];
@@ -223,6 +279,7 @@ fn show(s: &[u8]) {
     text(b"\n");
     show_values(s);
     show_fields(s, &table, checked.fields);
+    write_back(s, &table, checked.fields);
 }
 
 // Where the line that starts at a place ends: at its CR LF, or at the end of the input.

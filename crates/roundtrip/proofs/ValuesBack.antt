@@ -1,0 +1,154 @@
+-- Values that are written into a field, read back: a value outside its range is written as bytes that are not allowed.
+use mathlib.Core.Path.{_≡_, _∙_, ap, sym, refl}
+use mathlib.Core.Bool.{true, false, _&&_, false≢true}
+use mathlib.Core.List.{List}
+use Prim.Native.Nat.{ℕ, zero, suc, _^_, _≤_, _<_}
+use native.Mathlib.Omega.{arith}
+use borrow.Author.Tests.{ltb-true, ltb-false, leb-true, eqb-true, ne-eqb}
+use lib.Dec.{eqb, leb, ltb}
+use lib.ListN.{length, getD, replicate, length-replicate, List·getD-eq-default}
+use Rattle.cells.specs.Bytes.{within, all}
+use Rattle.cells.proofs.Bools.{split, and-left, and-right}
+use Rattle.rules.specs.Class.{belongs, allOf}
+use Rattle.rules.specs.Number.{numberFrom, number}
+use Rattle.rules.specs.Day.{firstYear, lastYear, leap, monthLengths, monthDays, realDay, dayOf, dayWidth}
+use Rattle.rules.specs.Values.{expectedOf}
+use Rattle.rules.specs.declared.class.Class.the-variants.{Allowed}
+use Rattle.rules.specs.declared.day.Day.{Day}
+use Rattle.rules.specs.declared.expected.Expected.{Expected}
+use Rattle.rules.specs.declared.expected.Expected.the-variants.{On, Zeros, Blanks}
+use Rattle.rules.proofs.Runs.{all-at}
+use Rattle.writing.specs.Digits.{digitsOf, unwritable, numberBytes}
+use Rattle.writing.specs.Typed.{dayDigits, dayBytes, isNoDay, deliveryDayBytes, expectedBytes}
+use Rattle.roundtrip.proofs.DigitsBack.{digits-length, number-of-digits}
+use Rattle.roundtrip.proofs.ListParts.{all-one}
+
+-- each byte of a list may stand in a record
+abbrev pub AllAllowed : List ℕ → Type 0
+AllAllowed s = all (belongs Allowed) s ≡ true
+
+-- how long the bytes of a value are, whatever the value
+pub number-length : (w n : ℕ) → length (numberBytes w n) ≡ w
+unfolding numberBytes unwritable
+number-length w n = split (ltb n (10 ^ w)) (λ e. rw e (digits-length w n)) (λ e. rw e (length-replicate w 0))
+
+pub day-length : (d : Day) → length (dayBytes d) ≡ dayWidth
+unfolding dayBytes dayDigits digitsOf unwritable
+day-length d = split (realDay d) (λ e. rw e) (λ e. rw e)
+
+pub delivery-day-length : (d : Day) → length (deliveryDayBytes d) ≡ dayWidth
+unfolding deliveryDayBytes
+delivery-day-length d = split (isNoDay d) (λ e. rw e) (λ e. rw e (day-length d))
+
+pub expected-length : (x : Expected) → length (expectedBytes x) ≡ dayWidth
+unfolding expectedBytes
+expected-length (On d) = day-length d
+expected-length Zeros = refl
+expected-length Blanks = refl
+
+-- bytes that stand for no value are not allowed
+not-allowed : (w : ℕ) → 0 < w → AllAllowed (unwritable w) → ⊥
+unfolding unwritable all belongs
+not-allowed zero h e = omega arith
+not-allowed (suc w) h e = false≢true e
+
+-- a number
+pub number-back : (w n : ℕ) → 0 < w → AllAllowed (numberBytes w n) → number (numberBytes w n) ≡ n
+unfolding numberBytes
+number-back w n h a =
+    split (ltb n (10 ^ w)) (λ e. rw e (number-of-digits w n (ltb-true n (10 ^ w) e))) (λ e. absurd (not-allowed w h (rw e at a)))
+
+-- no month has more than 31 days, and past the twelfth there is none
+length-most : (m : ℕ) → getD monthLengths m 0 ≤ 31
+unfolding all
+length-most m =
+    split (ltb m 13) (λ e. leb-true _ 31 (all-at (λ (n : ℕ). leb n 31) monthLengths m refl (ltb-true m 13 e)))
+    (λ e. rw (List·getD-eq-default monthLengths 0 (ltb-false m 13 e)) (omega arith))
+
+days-most : (y m : ℕ) → monthDays y m ≤ 31
+unfolding monthDays
+days-most y m = split (eqb m 2 && leap y) (λ e. rw e (omega arith)) (λ e. rw e (length-most m))
+
+month-most : (y m : ℕ) → 1 ≤ monthDays y m → m ≤ 12
+unfolding monthDays
+month-most y m h =
+    split (ltb m 13) (λ e. omega (arith, ltb-true m 13 e))
+    (λ e.
+    let p : 13 ≤ m = ltb-false m 13 e in
+    absurd (omega (arith, rw (ne-eqb m 2 (λ q. omega arith), List·getD-eq-default monthLengths 0 p) at h)))
+
+-- the parts of a real day have no more digits than are written
+module _ (d : Day) (e : realDay d ≡ true) where
+  real-year : within firstYear lastYear (d .year) ≡ true
+  unfolding realDay
+  real-year = and-left _ (within 1 (monthDays (d .year) (d .month)) (d .day)) e
+
+  real-day : within 1 (monthDays (d .year) (d .month)) (d .day) ≡ true
+  unfolding realDay
+  real-day = and-right (within firstYear lastYear (d .year)) _ e
+
+  pub first-year : 1 ≤ d .year
+  first-year = leb-true 1 (d .year) (and-left _ (leb (d .year) lastYear) real-year)
+
+  last-year : d .year ≤ 9999
+  last-year = leb-true (d .year) lastYear (and-right (leb firstYear (d .year)) _ real-year)
+
+  last-day : (1 ≤ d .day) × (d .day ≤ monthDays (d .year) (d .month))
+  last-day =
+      let n = monthDays (d .year) (d .month) in
+      (leb-true 1 (d .day) (and-left _ (leb (d .day) n) real-day), leb-true (d .day) n (and-right (leb 1 (d .day)) _ real-day))
+
+  -- so its digits are its own
+  digits-of-day : dayOf (dayDigits d) ≡ d
+  unfolding dayOf dayDigits digitsOf
+  digits-of-day =
+      let l = last-day in
+      let m = month-most (d .year) (d .month) (omega arith) in
+      let n = days-most (d .year) (d .month) in
+      λ i. record {
+        year = number-of-digits 4 (d .year) (omega (arith, last-year)) i;
+        month = number-of-digits 2 (d .month) (omega arith) i;
+        day = number-of-digits 2 (d .day) (omega arith) i;
+      }
+
+  -- and not one byte over and over that counts nothing, since its year is not 0
+  not-one : (a : ℕ) → dayOf (replicate dayWidth a) .year ≡ 0 → all (λ (b : ℕ). eqb b a) (dayDigits d) ≡ false
+  unfolding dayDigits digitsOf
+  not-one a z =
+      split (all (λ (b : ℕ). eqb b a) (dayDigits d))
+      (λ q.
+      let s : dayDigits d ≡ replicate dayWidth a = all-one a (dayDigits d) q in
+      let y : d .year ≡ dayOf (replicate dayWidth a) .year = ap (λ (x : Day). x .year) (sym digits-of-day ∙ ap dayOf s) in
+      absurd (omega (arith, first-year)))
+      (λ q. q)
+
+-- a day
+pub day-back : (d : Day) → AllAllowed (dayBytes d) → dayOf (dayBytes d) ≡ d
+unfolding dayBytes
+day-back d a = split (realDay d) (λ e. rw e (digits-of-day d e)) (λ e. absurd (not-allowed dayWidth (omega arith) (rw e at a)))
+
+-- the date of a closing record
+no-day-back : (d : Day) → isNoDay d ≡ true → dayOf (replicate dayWidth 48) ≡ d
+unfolding isNoDay dayOf numberFrom
+no-day-back d e =
+    let y = eqb-true (d .year) 0 (and-left _ (eqb (d .month) 0 && eqb (d .day) 0) e) in
+    let r = and-right (eqb (d .year) 0) (eqb (d .month) 0 && eqb (d .day) 0) e in
+    let m = eqb-true (d .month) 0 (and-left _ (eqb (d .day) 0) r) in
+    let n = eqb-true (d .day) 0 (and-right (eqb (d .month) 0) _ r) in
+    λ i. record { year = sym y i; month = sym m i; day = sym n i }
+
+-- a delivery's date
+pub delivery-day-back : (d : Day) → AllAllowed (deliveryDayBytes d) → dayOf (deliveryDayBytes d) ≡ d
+unfolding deliveryDayBytes
+delivery-day-back d a = split (isNoDay d) (λ e. rw e (no-day-back d e)) (λ e. rw e (day-back d (rw e at a)))
+
+-- an expected date
+pub on-back : (d : Day) → realDay d ≡ true → expectedOf (dayDigits d) ≡ On d
+unfolding expectedOf allOf belongs dayOf numberFrom
+on-back d e = rw (not-one d e 48 refl, not-one d e 32 refl) (ap On (digits-of-day d e))
+
+pub expected-back : (x : Expected) → AllAllowed (expectedBytes x) → expectedOf (expectedBytes x) ≡ x
+unfolding expectedBytes dayBytes expectedOf allOf all belongs
+expected-back (On d) a = split (realDay d) (λ e. rw e (on-back d e)) (λ e. absurd (not-allowed dayWidth (omega arith) (rw e at a)))
+expected-back Zeros a = refl
+expected-back Blanks a = refl

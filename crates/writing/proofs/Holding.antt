@@ -1,0 +1,27 @@
+-- The fixed field that a byte stands in, one field at a time.
+use mathlib.Core.Path.{_≡_}
+use mathlib.Core.List.{List}
+use Prim.Native.Nat.{ℕ, suc, _+_, _-_, _≤_, _<_}
+use borrow.Author.Tests.{lt-ltb, le-ltb}
+use lib.ListN.{length, getD, drop, drop-of-length-le}
+use Rattle.record.specs.Layout.{noField}
+use Rattle.record.specs.declared.layout.Field.{Field}
+use Rattle.record.proofs.Layouts.{field-here}
+use Rattle.writing.specs.Write.{fieldHolding}
+
+-- the field with index i, where left bytes stand before the byte from that field on
+module _ (fs : List Field) (i : ℕ) (h : i < length fs) (f : Field) (e : f ≡ getD fs i noField) (left : ℕ) where
+  -- the byte stands in it
+  pub held-here : left < f .size → fieldHolding (drop i fs) left ≡ 0
+  unfolding fieldHolding
+  held-here q = rw (field-here fs i h f e, lt-ltb left (f .size) q)
+
+  -- the byte stands after it
+  pub held-after : f .size ≤ left → fieldHolding (drop i fs) left ≡ suc (fieldHolding (drop (i + 1) fs) (left - f .size))
+  unfolding fieldHolding
+  held-after q = rw (field-here fs i h f e, le-ltb left (f .size) q)
+
+-- past the last field nothing is left to count
+pub held-past : (fs : List Field) (i left : ℕ) → length fs ≤ i → fieldHolding (drop i fs) left ≡ 0
+unfolding fieldHolding
+held-past fs i left h = rw (drop-of-length-le fs {i = i} h)

@@ -1,0 +1,10 @@
+pub mod Computed
+pub mod Contents
+pub mod Decimals
+pub mod Fitting
+pub mod Holding
+pub mod Records
+pub mod Stages
+pub mod Stores
+pub mod Tables
+pub mod Widths
