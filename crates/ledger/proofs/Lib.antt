@@ -1,0 +1,9 @@
+pub mod Computed
+pub mod Lists
+pub mod Tests
+pub mod Parts
+pub mod Histories
+pub mod Sums
+pub mod Lines
+pub mod Slips
+pub mod Demand3

@@ -1,0 +1,82 @@
+-- Document 01, "The book": lines and slips, and a line's figures.
+use Prim.Native.Nat.{ℕ, _-_, min}
+use mathlib.Core.Bool.{Bool, true, false}
+use mathlib.Core.Option.{Option, none, some}
+use mathlib.Core.List.{List}
+use lib.ListN.{take}
+use Rattle.cells.specs.Bytes.{pick, same}
+
+-- a key's fields one after the other, as bytes. A line's: school address and qualifier, supplier address and qualifier, reference, article and qualifier. A slip's: supplier and school with qualifiers, date, slip number, position
+abbrev pub Key : Type 0
+Key = List ℕ
+
+-- school address and qualifier head a line's key
+abbrev pub schoolWidth : ℕ
+schoolWidth = 12
+
+unfoldable pub schoolOf : Key → Key
+schoolOf k = take schoolWidth k
+
+-- the line with a key is a school's
+unfoldable pub ofSchool : Key → Key → Bool
+ofSchool school k = same school (schoolOf k)
+
+-- what an order, a delivery and a report say besides the key of their line
+pub data Hold : Type 0 where
+  J N : Hold
+
+pub record Order : Type 0 where
+  pub copies : ℕ
+
+pub record Goods : Type 0 where
+  pub slip : Key
+  pub copies : ℕ
+
+pub record Report : Type 0 where
+  pub hold : Hold
+
+-- a line: its key, its order with the quantity Q, the sum A of its slips, and its last report if any
+pub record Line : Type 0 where
+  pub key : Key
+  pub asked : Order
+  pub arrived : ℕ
+  pub last : Option Report
+
+-- a slip: the key of its line, and what the delivery said
+pub record Slip : Type 0 where
+  pub line : Key
+  pub says : Goods
+
+pub record Book : Type 0 where
+  pub lines : List Line
+  pub slips : List Slip
+
+-- the caller lends room for so many lines and slips
+pub record Rooms : Type 0 where
+  pub forLines : ℕ
+  pub forSlips : ℕ
+
+-- a line's figures
+
+unfoldable pub ordered : Line → ℕ
+ordered l = l .asked .copies
+
+-- filled is the smaller of Q and A
+unfoldable pub filled : Line → ℕ
+filled l = min (ordered l) (l .arrived)
+
+-- extra is A minus filled
+unfoldable pub extra : Line → ℕ
+extra l = l .arrived - filled l
+
+-- the last mark is N
+unfoldable pub isN : Option Report → Bool
+isN none = false
+isN (some r) = elim (r .hold) [ J ↦ false | N ↦ true ]
+
+-- Q minus filled is let go where the last mark is N, otherwise open
+unfoldable pub letGo : Line → ℕ
+letGo l = pick (isN (l .last)) (ordered l - filled l) 0
+
+unfoldable pub stillOpen : Line → ℕ
+stillOpen l = pick (isN (l .last)) 0 (ordered l - filled l)
