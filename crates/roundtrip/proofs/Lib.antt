@@ -1,6 +1,7 @@
 pub mod Accepted
 pub mod Appended
 pub mod BytesBack
+pub mod Demand2
 pub mod DigitsBack
 pub mod EntriesBack
 pub mod Fields
@@ -10,6 +11,7 @@ pub mod FixedFields
 pub mod Fronts
 pub mod ListParts
 pub mod NumbersBack
+pub mod Promises
 pub mod ReadAfterWrite
 pub mod Sequences
 pub mod Texts
@@ -17,4 +19,3 @@ pub mod Typed
 pub mod ValuesBack
 pub mod Verdicts
 pub mod WriteAfterRead
-pub mod Demand2
