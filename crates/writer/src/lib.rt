@@ -1,12 +1,11 @@
 // Writing a typed record: its fixed part's bytes, then as from bytes.
-pub mod fixed;
 
 ghost use mathlib.Core.Path.{_≡_};
 ghost use Rattle.writing.specs.Write.{outcome, write};
 ghost use Rattle.writing.specs.Typed.{orderBytes, deliveryBytes, reportBytes};
-use crate::fixed::delivery_bytes;
-use crate::fixed::order_bytes;
-use crate::fixed::report_bytes;
+use fixed::delivery_bytes;
+use fixed::order_bytes;
+use fixed::report_bytes;
 use record::values::Delivery;
 use record::values::Order;
 use record::values::Report;

@@ -1,4 +1,4 @@
--- `writer::fixed::put_day` meets its contract, by whether the day is real.
+-- `fixed::put_day` meets its contract, by whether the day is real.
 use mathlib.Core.Path.{refl}
 use mathlib.Core.List.{_++_}
 use Prim.Native.Nat.{_+_}
@@ -8,8 +8,8 @@ use Rattle.writing.specs.Typed.{dayDigits, dayBytes}
 use Rattle.writing.proofs.Decimals.{digits-length}
 use Rattle.writing.proofs.Stores.{sets-then}
 use borrow.Author.Needs.{needs}
-use Rattle.writer.proofs.fixed.put_day.Statement.{statement}
-use Rattle.writer.proofs.fixed.put_day.Tie as tie
+use Rattle.fixed.proofs.put_day.Statement.{statement}
+use Rattle.fixed.proofs.put_day.Tie as tie
 
 is-real-requires : tie.Need-is-real-requires
 is-real-requires c κs = search needs

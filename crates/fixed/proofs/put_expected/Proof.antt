@@ -1,8 +1,8 @@
--- `writer::fixed::put_expected` meets its contract, by what is expected.
+-- `fixed::put_expected` meets its contract, by what is expected.
 use Rattle.writing.specs.Typed.{expectedBytes}
 use borrow.Author.Needs.{needs}
-use Rattle.writer.proofs.fixed.put_expected.Statement.{statement}
-use Rattle.writer.proofs.fixed.put_expected.Tie as tie
+use Rattle.fixed.proofs.put_expected.Statement.{statement}
+use Rattle.fixed.proofs.put_expected.Tie as tie
 
 enum-known-e : tie.Need-enum-known-e
 enum-known-e c = search needs

@@ -1,11 +1,11 @@
--- `writer::fixed::put_party` meets its contract: the qualifier stands behind the address.
+-- `fixed::put_party` meets its contract: the qualifier stands behind the address.
 use mathlib.Core.Path.{refl}
 use native.Mathlib.Omega.{arith}
-use Rattle.writer.proofs.Values.{party-wide}
+use Rattle.fixed.proofs.Values.{party-wide}
 use Rattle.writing.proofs.Stores.{sets-then}
 use borrow.Author.Needs.{needs}
-use Rattle.writer.proofs.fixed.put_party.Statement.{statement}
-use Rattle.writer.proofs.fixed.put_party.Tie as tie
+use Rattle.fixed.proofs.put_party.Statement.{statement}
+use Rattle.fixed.proofs.put_party.Tie as tie
 
 slice-aggregate-paste-at : tie.Need-slice-aggregate-paste-at
 slice-aggregate-paste-at c = search needs

@@ -1,14 +1,14 @@
--- `writer::fixed::order_bytes` meets its contract: each field stands behind the one before, and together they fill the array.
+-- `fixed::order_bytes` meets its contract: each field stands behind the one before, and together they fill the array.
 use mathlib.Core.Path.{refl, sym}
 use native.Mathlib.Omega.{arith}
 use Rattle.writing.specs.Typed.{orderFields, orderBytes}
 use Rattle.writing.proofs.Decimals.{number-length}
-use Rattle.writer.proofs.Values.{order-wide}
-use Rattle.writer.proofs.Days.{day-length}
-use Rattle.writer.proofs.Filled.{filled-end, filled-next, filled-two, filled-whole}
+use Rattle.fixed.proofs.Values.{order-wide}
+use Rattle.fixed.proofs.Days.{day-length}
+use Rattle.fixed.proofs.Filled.{filled-end, filled-next, filled-two, filled-whole}
 use borrow.Author.Needs.{needs}
-use Rattle.writer.proofs.fixed.order_bytes.Statement.{statement}
-use Rattle.writer.proofs.fixed.order_bytes.Tie as tie
+use Rattle.fixed.proofs.order_bytes.Statement.{statement}
+use Rattle.fixed.proofs.order_bytes.Tie as tie
 
 slice-aggregate-paste-at : tie.Need-slice-aggregate-paste-at
 slice-aggregate-paste-at c = search needs

@@ -1,8 +1,8 @@
--- `writer::fixed::put_delivery_day` meets its contract, by whether the date is that of a closing record.
+-- `fixed::put_delivery_day` meets its contract, by whether the date is that of a closing record.
 use Rattle.writing.specs.Typed.{deliveryDayBytes}
 use borrow.Author.Needs.{needs}
-use Rattle.writer.proofs.fixed.put_delivery_day.Statement.{statement}
-use Rattle.writer.proofs.fixed.put_delivery_day.Tie as tie
+use Rattle.fixed.proofs.put_delivery_day.Statement.{statement}
+use Rattle.fixed.proofs.put_delivery_day.Tie as tie
 
 is-no-day-requires : tie.Need-is-no-day-requires
 is-no-day-requires c κs = search needs

@@ -1,13 +1,13 @@
--- `writer::fixed::put_amounts` meets its contract: each value stands behind the one before.
+-- `fixed::put_amounts` meets its contract: each value stands behind the one before.
 use mathlib.Core.Path.{refl, sym}
 use native.Mathlib.Omega.{arith}
 use Rattle.writing.specs.Typed.{joined}
 use Rattle.writing.proofs.Decimals.{number-length}
-use Rattle.writer.proofs.Values.{amounts, delivery-wide}
-use Rattle.writer.proofs.Filled.{filled-end, filled-first, filled-next, filled-from}
+use Rattle.fixed.proofs.Values.{amounts, delivery-wide}
+use Rattle.fixed.proofs.Filled.{filled-end, filled-first, filled-next, filled-from}
 use borrow.Author.Needs.{needs}
-use Rattle.writer.proofs.fixed.put_amounts.Statement.{statement}
-use Rattle.writer.proofs.fixed.put_amounts.Tie as tie
+use Rattle.fixed.proofs.put_amounts.Statement.{statement}
+use Rattle.fixed.proofs.put_amounts.Tie as tie
 
 put-number-requires : tie.Need-put-number-requires
 put-number-requires c κs = search needs

@@ -1,13 +1,13 @@
--- `writer::fixed::delivery_bytes` meets its contract: each field stands behind the one before, and together they fill the array.
+-- `fixed::delivery_bytes` meets its contract: each field stands behind the one before, and together they fill the array.
 use mathlib.Core.Path.{refl, sym}
 use native.Mathlib.Omega.{arith}
 use Rattle.writing.specs.Typed.{joined, deliveryFields, deliveryBytes}
-use Rattle.writer.proofs.Values.{delivery-wide, amounts-length}
-use Rattle.writer.proofs.Days.{delivery-day-length}
-use Rattle.writer.proofs.Filled.{filled-last, filled-next, filled-two, filled-whole}
+use Rattle.fixed.proofs.Values.{delivery-wide, amounts-length}
+use Rattle.fixed.proofs.Days.{delivery-day-length}
+use Rattle.fixed.proofs.Filled.{filled-last, filled-next, filled-two, filled-whole}
 use borrow.Author.Needs.{needs}
-use Rattle.writer.proofs.fixed.delivery_bytes.Statement.{statement}
-use Rattle.writer.proofs.fixed.delivery_bytes.Tie as tie
+use Rattle.fixed.proofs.delivery_bytes.Statement.{statement}
+use Rattle.fixed.proofs.delivery_bytes.Tie as tie
 
 slice-aggregate-paste-at : tie.Need-slice-aggregate-paste-at
 slice-aggregate-paste-at c = search needs

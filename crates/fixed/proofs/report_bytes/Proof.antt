@@ -1,14 +1,14 @@
--- `writer::fixed::report_bytes` meets its contract: each field stands behind the one before, and together they fill the array.
+-- `fixed::report_bytes` meets its contract: each field stands behind the one before, and together they fill the array.
 use mathlib.Core.Path.{refl}
 use native.Mathlib.Omega.{arith}
 use Rattle.writing.specs.Typed.{reportFields, reportBytes}
 use Rattle.writing.proofs.Decimals.{number-length}
-use Rattle.writer.proofs.Values.{report-wide}
-use Rattle.writer.proofs.Days.{expected-length}
-use Rattle.writer.proofs.Filled.{filled-end, filled-next, filled-two, filled-whole}
+use Rattle.fixed.proofs.Values.{report-wide}
+use Rattle.fixed.proofs.Days.{expected-length}
+use Rattle.fixed.proofs.Filled.{filled-end, filled-next, filled-two, filled-whole}
 use borrow.Author.Needs.{needs}
-use Rattle.writer.proofs.fixed.report_bytes.Statement.{statement}
-use Rattle.writer.proofs.fixed.report_bytes.Tie as tie
+use Rattle.fixed.proofs.report_bytes.Statement.{statement}
+use Rattle.fixed.proofs.report_bytes.Tie as tie
 
 slice-aggregate-paste-at : tie.Need-slice-aggregate-paste-at
 slice-aggregate-paste-at c = search needs

@@ -1,8 +1,8 @@
--- `writer::fixed::is_no_day` meets its contract as it stands.
+-- `fixed::is_no_day` meets its contract as it stands.
 use mathlib.Core.Path.{refl}
 use Rattle.writing.specs.Typed.{isNoDay}
-use Rattle.writer.proofs.fixed.is_no_day.Statement.{statement}
-use Rattle.writer.proofs.fixed.is_no_day.Tie as tie
+use Rattle.fixed.proofs.is_no_day.Statement.{statement}
+use Rattle.fixed.proofs.is_no_day.Tie as tie
 
 returns : tie.Need-returns
 unfolding isNoDay

@@ -1,11 +1,11 @@
--- `writer::fixed::put_article` meets its contract: the qualifier stands behind the number.
+-- `fixed::put_article` meets its contract: the qualifier stands behind the number.
 use mathlib.Core.Path.{refl}
 use native.Mathlib.Omega.{arith}
-use Rattle.writer.proofs.Values.{article-wide}
+use Rattle.fixed.proofs.Values.{article-wide}
 use Rattle.writing.proofs.Stores.{sets-then}
 use borrow.Author.Needs.{needs}
-use Rattle.writer.proofs.fixed.put_article.Statement.{statement}
-use Rattle.writer.proofs.fixed.put_article.Tie as tie
+use Rattle.fixed.proofs.put_article.Statement.{statement}
+use Rattle.fixed.proofs.put_article.Tie as tie
 
 slice-aggregate-paste-at : tie.Need-slice-aggregate-paste-at
 slice-aggregate-paste-at c = search needs
