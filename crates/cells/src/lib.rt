@@ -1,4 +1,6 @@
-// Bytes in a slice: a part of it, whether two are the same, and a copy.
+// Bytes in a slice: a part of it, whether two are the same, a copy, and little-endian numbers.
+pub mod little;
+
 ghost use mathlib.Core.Path.{_≡_};
 ghost use Prim.Native.Nat.{_+_, _≤_};
 ghost use lib.ListN.{length};

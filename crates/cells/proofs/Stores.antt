@@ -1,0 +1,87 @@
+-- What a run of stores leaves to read: at its places what was stored, elsewhere what stood there.
+use mathlib.Core.Path.{_≡_, refl, ap, ap₂, _∙_}
+use mathlib.Core.List.{List, [], _∷_, _++_, append-assoc}
+use mathlib.Core.Logic.{_⊎_, _≢_, inl, inr, ⊎-elim}
+use Prim.Native.Nat.{ℕ, zero, suc, _+_, _*_, _≤_, _<_}
+use native.Mathlib.Nat.{add-zero, add-suc, suc-add, not-suc-le-zero, mul-le-mul-left, mul-suc, add-assoc}
+use native.Mathlib.Decide.{decLe}
+use native.Mathlib.Omega.{arith}
+use lib.ListN.{length, getD, take, drop, set, length-set, length-take, length-drop}
+use lib.Seq.{sets, sets-eq, slice, getD-set-same, getD-set-other, getD-take, getD-drop, ext-getD, drop-at, take-at, length-take-le}
+use Rattle.cells.specs.Little.{leAt}
+use Rattle.cells.proofs.Parts.{take-from}
+
+-- a run of stores after another is one run
+pub sets-append : (s : List ℕ) (i : ℕ) (xs ys : List ℕ) → sets s i (xs ++ ys) ≡ sets (sets s i xs) (i + length xs) ys
+sets-append s i [] ys = rw add-zero
+sets-append s i (x ∷ xs) ys =
+    sets-append (set s i x) (suc i) xs ys ∙ ap (λ (k : ℕ). sets (sets (set s i x) (suc i) xs) k ys) (omega arith)
+
+-- before and after the run nothing changed
+pub sets-before : (s : List ℕ) (i : ℕ) (xs : List ℕ) (j : ℕ) → j < i → getD (sets s i xs) j 0 ≡ getD s j 0
+sets-before s i [] j h = refl
+sets-before s i (x ∷ xs) j h = sets-before (set s i x) (suc i) xs j (omega arith) ∙ getD-set-other s i j x 0 (omega arith)
+
+pub sets-after : (s : List ℕ) (i : ℕ) (xs : List ℕ) (j : ℕ) → i + length xs ≤ j → getD (sets s i xs) j 0 ≡ getD s j 0
+sets-after s i [] j h = refl
+sets-after s i (x ∷ xs) j h = sets-after (set s i x) (suc i) xs j (omega arith) ∙ getD-set-other s i j x 0 (omega arith)
+
+-- in the run stands what was stored
+pub sets-in : (s : List ℕ) (i : ℕ) (xs : List ℕ) (k : ℕ) → i + length xs ≤ length s → k < length xs → getD (sets s i xs) (i + k) 0 ≡ getD xs k 0
+sets-in s i [] k h n = absurd (not-suc-le-zero n)
+sets-in s i (x ∷ xs) zero h n = rw add-zero (sets-before (set s i x) (suc i) xs i (omega arith) ∙ getD-set-same s i x 0 (omega arith))
+sets-in s i (x ∷ xs) (suc k) h n =
+    rw (add-suc, ← suc-add) (sets-in (set s i x) (suc i) xs k (rw length-set (omega arith)) (omega arith))
+
+-- a number depends on its own bytes alone
+pub le-ext : (s t : List ℕ) (a b w : ℕ) → ((k : ℕ) → k < w → getD s (a + k) 0 ≡ getD t (b + k) 0) → leAt s a w ≡ leAt t b w
+unfolding leAt
+le-ext s t a b zero h = refl
+le-ext s t a b (suc w) h =
+    ap₂ (λ (x y : ℕ). x + 256 * y) (rw (add-zero a, add-zero b) at (h 0 (omega arith)))
+    (le-ext s t (suc a) (suc b) w (λ k n. rw (suc-add a k, suc-add b k, ← add-suc a k, ← add-suc b k) (h (suc k) (omega arith))))
+
+-- a number in the run is the one that was stored
+pub le-in : (s : List ℕ) (i : ℕ) (xs : List ℕ) → i + length xs ≤ length s → (k w a : ℕ) → a ≡ i + k → k + w ≤ length xs → leAt (sets s i xs) a w ≡ leAt xs k w
+le-in s i xs room k w a e h =
+    le-ext (sets s i xs) xs a k w (λ m n. rw (e, add-assoc i k m) (sets-in s i xs (k + m) room (omega arith)))
+
+-- a part depends on its own bytes alone
+pub part-ext : (s t : List ℕ) (a w : ℕ) → length s ≡ length t → ((k : ℕ) → k < w → getD s (a + k) 0 ≡ getD t (a + k) 0) → slice a (a + w) s ≡ slice a (a + w) t
+part-ext s t a w e h =
+    rw (← take-from w a s, ← take-from w a t) (ext-getD 0 (take w (drop a s)) (take w (drop a t)) (simp (length-take, length-drop, e)) at-each)
+  where
+    at-each : (i : ℕ) → i < length (take w (drop a s)) → getD (take w (drop a s)) i 0 ≡ getD (take w (drop a t)) i 0
+    at-each i n =
+        let m : i < w = omega (arith, rw length-take at n) in
+        rw (getD-take w (drop a s) i 0, getD-take w (drop a t) i 0, getD-drop a s i 0, getD-drop a t i 0) (h i m)
+
+-- the front of a run is the part that it stored
+pub sets-part : (s : List ℕ) (i : ℕ) (xs ys : List ℕ) (w : ℕ) → length xs ≡ w → i + length (xs ++ ys) ≤ length s → slice i (i + w) (sets s i (xs ++ ys)) ≡ xs
+sets-part s i xs ys w e h =
+    let n : length (take i s) ≡ i = length-take-le i s (omega arith) in
+    let rest : List ℕ = ys ++ drop (i + length (xs ++ ys)) s in
+    rw (← take-from w i (sets s i (xs ++ ys)), sets-eq (xs ++ ys) s i h)
+    (simp append-assoc (rw (drop-at (take i s) (xs ++ rest) i n) (take-at xs rest w e)))
+
+-- with entries of w bytes, a run within entry i leaves every other entry
+pub sets-aside : (s : List ℕ) (w i from : ℕ) (xs : List ℕ) → from + length xs ≤ w → (j k : ℕ) → j ≢ i → k < w → getD (sets s (w * i + from) xs) (w * j + k) 0 ≡ getD s (w * j + k) 0
+sets-aside s w i from xs h j k ne n = ⊎-elim below above (sides (decLe j i))
+  where
+    sides : Dec (j ≤ i) → (suc j ≤ i) ⊎ (suc i ≤ j)
+    sides (yes a) = inl (omega arith)
+    sides (no a) = inr (omega arith)
+
+    below : suc j ≤ i → getD (sets s (w * i + from) xs) (w * j + k) 0 ≡ getD s (w * j + k) 0
+    below a = sets-before s (w * i + from) xs (w * j + k) (omega (arith, mul-le-mul-left w a, mul-suc w j))
+
+    above : suc i ≤ j → getD (sets s (w * i + from) xs) (w * j + k) 0 ≡ getD s (w * j + k) 0
+    above a = sets-after s (w * i + from) xs (w * j + k) (omega (arith, mul-le-mul-left w a, mul-suc w i))
+
+-- where two lists have the same bytes in entry j, the numbers and the front of the entry are the same
+module _ (s t : List ℕ) (w j : ℕ) (bytes : (k : ℕ) → k < w → getD s (w * j + k) 0 ≡ getD t (w * j + k) 0) where
+  pub number-ext : (from n : ℕ) → from + n ≤ w → leAt s (w * j + from) n ≡ leAt t (w * j + from) n
+  number-ext from n h = le-ext s t (w * j + from) (w * j + from) n (λ k m. rw (add-assoc (w * j) from k) (bytes (from + k) (omega arith)))
+
+  pub front-ext : (n : ℕ) → n ≤ w → length s ≡ length t → slice (w * j) (w * j + n) s ≡ slice (w * j) (w * j + n) t
+  front-ext n h e = part-ext s t (w * j) n e (λ k m. bytes k (omega arith))

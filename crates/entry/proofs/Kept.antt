@@ -1,0 +1,166 @@
+-- What a line or a slip written leaves to read: itself as it was written, and every other as it was.
+use mathlib.Core.Path.{_≡_, refl, ap, _∙_}
+use mathlib.Core.List.{List, _++_}
+use mathlib.Core.Logic.{_≢_}
+use Prim.Native.Nat.{ℕ, _+_, _*_, _≤_, _<_}
+use native.Mathlib.Nat.{add-zero}
+use native.Mathlib.Decide.{decLe}
+use native.Mathlib.Omega.{arith}
+use lib.ListN.{length, getD, length-append}
+use lib.Seq.{sets, length-sets}
+use Rattle.cells.specs.Little.{leAt, leBytes}
+use Rattle.cells.proofs.Numbers.{le-back}
+use Rattle.cells.proofs.Stores.{sets-before, sets-after, sets-in, sets-part, sets-aside, le-in, part-ext, number-ext, front-ext}
+use Rattle.entry.specs.Line.{markOf, markByte}
+use Rattle.entry.specs.Stored.{lineWidth, keyWidth, markAt, arrivedAt, slipWidth, slipKeyWidth, slipCopiesPlace, lineAt, lineBytes, putLine, addLine, keyAt, slipKeyAt, slipLineAt, slipCopiesAt, addSlip}
+use Rattle.entry.specs.declared.line.Mark.{Mark}
+use Rattle.entry.specs.declared.line.Mark.the-variants.{Unmarked, Held, Dropped}
+use Rattle.entry.specs.declared.line.Line.{Line}
+use Rattle.entry.proofs.Writes.{add-line, add-slip}
+
+-- a mark is read back from its byte
+pub mark-back : (m : Mark) → markOf (markByte m) ≡ m
+unfolding markByte
+mark-back Unmarked = refl
+mark-back Held = refl
+mark-back Dropped = refl
+
+-- two rooms have the same bytes in entry j
+abbrev pub SameIn : ℕ → ℕ → List ℕ → List ℕ → Type 0
+SameIn w j s t = (k : ℕ) → k < w → getD s (w * j + k) 0 ≡ getD t (w * j + k) 0
+
+-- a line is read from its own bytes
+line-ext : (s t : List ℕ) (j : ℕ) → SameIn lineWidth j s t → lineAt s j ≡ lineAt t j
+unfolding lineAt
+line-ext s t j b = λ x. record {
+  ordered = number-ext s t lineWidth j b keyWidth 2 (omega arith) x;
+  arrived = number-ext s t lineWidth j b arrivedAt 4 (omega arith) x;
+  mark = ap markOf (b markAt (omega arith)) x;
+}
+
+-- a line's values written at i, in the seven bytes after its key
+module _ (ls : List ℕ) (i : ℕ) (l : Line) where
+  pub put-length : length (putLine ls i l) ≡ length ls
+  unfolding putLine
+  put-length = length-sets ls (lineWidth * i + keyWidth) (lineBytes l)
+
+  -- no byte of another line changes
+  pub put-bytes : (j : ℕ) → j ≢ i → SameIn lineWidth j (putLine ls i l) ls
+  unfolding putLine lineBytes leBytes
+  put-bytes j ne k n = sets-aside ls lineWidth i keyWidth (lineBytes l) (omega arith) j k ne n
+
+  -- the mark's byte, and the line, are read back
+  pub put-mark : lineWidth * i + lineWidth ≤ length ls → getD (putLine ls i l) (lineWidth * i + markAt) 0 ≡ markByte (l .mark)
+  unfolding putLine lineBytes leBytes
+  put-mark h =
+      let e : lineWidth * i + markAt ≡ lineWidth * i + keyWidth + 2 = omega arith in
+      rw e (sets-in ls (lineWidth * i + keyWidth) (lineBytes l) 2 (omega arith) (omega arith))
+
+  pub put-back : lineWidth * i + lineWidth ≤ length ls → l .ordered < 65536 → l .arrived < 4294967296 → lineAt (putLine ls i l) i ≡ l
+  unfolding lineAt putLine lineBytes leBytes leAt
+  put-back h a b =
+      let stored = le-in ls (lineWidth * i + keyWidth) (lineBytes l) (omega arith) in
+      λ x. record {
+        ordered = (stored 0 2 (lineWidth * i + keyWidth) (omega arith) (omega arith) ∙ le-back 2 (l .ordered) a) x;
+        arrived = (stored 3 4 (lineWidth * i + arrivedAt) (omega arith) (omega arith) ∙ le-back 4 (l .arrived) b) x;
+        mark = (ap markOf (put-mark h) ∙ mark-back (l .mark)) x;
+      }
+
+  -- every other line stays
+  pub put-apart : (j : ℕ) → j ≢ i → lineAt (putLine ls i l) j ≡ lineAt ls j
+  put-apart j ne = line-ext (putLine ls i l) ls j (put-bytes j ne)
+
+  -- every key stays, also that of the line itself
+  pub put-key : (j : ℕ) → keyAt (putLine ls i l) j ≡ keyAt ls j
+  unfolding keyAt putLine lineBytes leBytes
+  put-key j = part-ext (putLine ls i l) ls (lineWidth * j) keyWidth put-length (λ k n. at k n (decLe j i))
+    where
+      at : (k : ℕ) → k < keyWidth → Dec (j ≤ i) → getD (putLine ls i l) (lineWidth * j + k) 0 ≡ getD ls (lineWidth * j + k) 0
+      at k n (yes h) = sets-before ls (lineWidth * i + keyWidth) (lineBytes l) (lineWidth * j + k) (omega arith)
+      at k n (no h) = sets-after ls (lineWidth * i + keyWidth) (lineBytes l) (lineWidth * j + k) (omega arith)
+
+-- a line written at i with its key
+module _ (ls : List ℕ) (i : ℕ) (key : List ℕ) (l : Line) where
+  pub add-length : length (addLine ls i key l) ≡ length ls
+  unfolding addLine
+  add-length = length-sets ls (lineWidth * i) (key ++ lineBytes l)
+
+  module _ (wide : length key ≡ keyWidth) where
+    line-width : length (key ++ lineBytes l) ≡ lineWidth
+    unfolding lineBytes leBytes
+    line-width = rw (length-append key (lineBytes l), wide)
+
+    -- no byte of another line changes
+    pub add-bytes : (j : ℕ) → j ≢ i → SameIn lineWidth j (addLine ls i key l) ls
+    unfolding addLine
+    add-bytes j ne k n =
+        rw (add-zero (lineWidth * i)) at (sets-aside ls lineWidth i 0 (key ++ lineBytes l) (omega (arith, line-width)) j k ne n)
+
+    -- the line and its key are read back
+    pub add-back : lineWidth * i + lineWidth ≤ length ls → l .ordered < 65536 → l .arrived < 4294967296 → lineAt (addLine ls i key l) i ≡ l
+    add-back h a b =
+        let room : lineWidth * i + lineWidth ≤ length (sets ls (lineWidth * i) key) = rw length-sets h in
+        rw (← add-line ls i key l wide) (put-back (sets ls (lineWidth * i) key) i l room a b)
+
+    pub add-key : lineWidth * i + lineWidth ≤ length ls → keyAt (addLine ls i key l) i ≡ key
+    unfolding keyAt addLine
+    add-key h = sets-part ls (lineWidth * i) key (lineBytes l) keyWidth wide (rw line-width h)
+
+    -- every other line and its key stay
+    pub add-apart : (j : ℕ) → j ≢ i → lineAt (addLine ls i key l) j ≡ lineAt ls j
+    add-apart j ne = line-ext (addLine ls i key l) ls j (add-bytes j ne)
+
+    pub add-key-apart : (j : ℕ) → j ≢ i → keyAt (addLine ls i key l) j ≡ keyAt ls j
+    unfolding keyAt
+    add-key-apart j ne = front-ext (addLine ls i key l) ls lineWidth j (add-bytes j ne) keyWidth (omega arith) add-length
+
+-- a slip written at i
+module _ (ss : List ℕ) (i : ℕ) (key : List ℕ) (line copies : ℕ) where
+  pub slip-length : length (addSlip ss i key line copies) ≡ length ss
+  unfolding addSlip
+  slip-length = length-sets ss (slipWidth * i) (key ++ (leBytes 2 line ++ leBytes 2 copies))
+
+  module _ (wide : length key ≡ slipKeyWidth) where
+    slip-width : length (key ++ (leBytes 2 line ++ leBytes 2 copies)) ≡ slipWidth
+    unfolding leBytes
+    slip-width = rw (length-append key (leBytes 2 line ++ leBytes 2 copies), wide)
+
+    -- no byte of another slip changes
+    slip-bytes : (j : ℕ) → j ≢ i → SameIn slipWidth j (addSlip ss i key line copies) ss
+    unfolding addSlip
+    slip-bytes j ne k n =
+        rw (add-zero (slipWidth * i)) at (sets-aside ss slipWidth i 0 (key ++ (leBytes 2 line ++ leBytes 2 copies)) (omega (arith, slip-width)) j k ne n)
+
+    -- the key, the line's index and the quantity are read back
+    pub slip-key : slipWidth * i + slipWidth ≤ length ss → slipKeyAt (addSlip ss i key line copies) i ≡ key
+    unfolding slipKeyAt addSlip
+    slip-key h = sets-part ss (slipWidth * i) key (leBytes 2 line ++ leBytes 2 copies) slipKeyWidth wide (rw slip-width h)
+
+    slip-number : slipWidth * i + slipWidth ≤ length ss → (k w a : ℕ) → a ≡ slipWidth * i + slipKeyWidth + k → k + w ≤ 4
+        → leAt (addSlip ss i key line copies) a w ≡ leAt (leBytes 2 line ++ leBytes 2 copies) k w
+    unfolding leBytes
+    slip-number h k w a e n =
+        let room : slipWidth * i + slipWidth ≤ length (sets ss (slipWidth * i) key) = rw length-sets h in
+        rw (← add-slip ss i key line copies wide)
+        (le-in (sets ss (slipWidth * i) key) (slipWidth * i + slipKeyWidth) (leBytes 2 line ++ leBytes 2 copies) (omega arith) k w a e n)
+
+    pub slip-line : slipWidth * i + slipWidth ≤ length ss → line < 65536 → slipLineAt (addSlip ss i key line copies) i ≡ line
+    unfolding slipLineAt leBytes leAt
+    slip-line h a = slip-number h 0 2 (slipWidth * i + slipKeyWidth) (omega arith) (omega arith) ∙ le-back 2 line a
+
+    pub slip-copies : slipWidth * i + slipWidth ≤ length ss → copies < 65536 → slipCopiesAt (addSlip ss i key line copies) i ≡ copies
+    unfolding slipCopiesAt leBytes leAt
+    slip-copies h a = slip-number h 2 2 (slipWidth * i + slipCopiesPlace) (omega arith) (omega arith) ∙ le-back 2 copies a
+
+    -- every other slip stays
+    pub slip-key-apart : (j : ℕ) → j ≢ i → slipKeyAt (addSlip ss i key line copies) j ≡ slipKeyAt ss j
+    unfolding slipKeyAt
+    slip-key-apart j ne = front-ext (addSlip ss i key line copies) ss slipWidth j (slip-bytes j ne) slipKeyWidth (omega arith) slip-length
+
+    pub slip-line-apart : (j : ℕ) → j ≢ i → slipLineAt (addSlip ss i key line copies) j ≡ slipLineAt ss j
+    unfolding slipLineAt
+    slip-line-apart j ne = number-ext (addSlip ss i key line copies) ss slipWidth j (slip-bytes j ne) slipKeyWidth 2 (omega arith)
+
+    pub slip-copies-apart : (j : ℕ) → j ≢ i → slipCopiesAt (addSlip ss i key line copies) j ≡ slipCopiesAt ss j
+    unfolding slipCopiesAt
+    slip-copies-apart j ne = number-ext (addSlip ss i key line copies) ss slipWidth j (slip-bytes j ne) slipCopiesPlace 2 (omega arith)

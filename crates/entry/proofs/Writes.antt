@@ -1,0 +1,39 @@
+-- The stores that write a line or a slip are one run.
+use mathlib.Core.Path.{_≡_}
+use mathlib.Core.List.{List, _++_}
+use Prim.Native.Nat.{ℕ, suc, _+_, _*_}
+use native.Mathlib.Omega.{arith}
+use lib.ListN.{length, set}
+use lib.Seq.{sets}
+use Rattle.cells.specs.Little.{leBytes}
+use Rattle.cells.proofs.Stores.{sets-append}
+use Rattle.entry.specs.Line.{markByte}
+use Rattle.entry.specs.Stored.{lineWidth, keyWidth, markAt, arrivedAt, slipWidth, slipKeyWidth, slipCopiesPlace, lineBytes, putLine, addLine, addSlip}
+use Rattle.entry.specs.declared.line.Line.{Line}
+
+-- Q, the mark and A
+pub put-line : (ls : List ℕ) (i : ℕ) (l : Line)
+    → sets (set (sets ls (lineWidth * i + keyWidth) (leBytes 2 (l .ordered))) (lineWidth * i + markAt) (markByte (l .mark))) (lineWidth * i + arrivedAt) (leBytes 4 (l .arrived)) ≡ putLine ls i l
+unfolding putLine lineBytes leBytes
+put-line ls i l =
+    let m : lineWidth * i + markAt ≡ suc (suc (lineWidth * i + keyWidth)) = omega arith in
+    let a : lineWidth * i + arrivedAt ≡ suc (suc (suc (lineWidth * i + keyWidth))) = omega arith in
+    rw (m, a)
+
+-- the key, and the line's bytes after it
+pub add-line : (ls : List ℕ) (i : ℕ) (key : List ℕ) (l : Line) → length key ≡ keyWidth → putLine (sets ls (lineWidth * i) key) i l ≡ addLine ls i key l
+unfolding putLine addLine
+add-line ls i key l e = rw (sets-append ls (lineWidth * i) key (lineBytes l), e)
+
+-- the key, and after it the index and the quantity
+pub add-slip : (ss : List ℕ) (j : ℕ) (key : List ℕ) (line copies : ℕ) → length key ≡ slipKeyWidth
+    → sets (sets ss (slipWidth * j) key) (slipWidth * j + slipKeyWidth) (leBytes 2 line ++ leBytes 2 copies) ≡ addSlip ss j key line copies
+unfolding addSlip
+add-slip ss j key line copies e = rw (sets-append ss (slipWidth * j) key (leBytes 2 line ++ leBytes 2 copies), e)
+
+pub put-slip : (ss : List ℕ) (j : ℕ) (key : List ℕ) (line copies : ℕ) → length key ≡ slipKeyWidth
+    → sets (sets (sets ss (slipWidth * j) key) (slipWidth * j + slipKeyWidth) (leBytes 2 line)) (slipWidth * j + slipCopiesPlace) (leBytes 2 copies) ≡ addSlip ss j key line copies
+unfolding leBytes
+put-slip ss j key line copies e =
+    let p : slipWidth * j + slipCopiesPlace ≡ suc (suc (slipWidth * j + slipKeyWidth)) = omega arith in
+    rw p (add-slip ss j key line copies e)

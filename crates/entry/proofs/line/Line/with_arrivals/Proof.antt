@@ -1,0 +1,16 @@
+-- `entry::line::Line::with_arrivals` meets its contract.
+use mathlib.Core.Path.{refl}
+use Rattle.entry.specs.Line.{withArrivals}
+use borrow.Author.Needs.{needs}
+use Rattle.entry.proofs.line.Line.with_arrivals.Statement.{statement}
+use Rattle.entry.proofs.line.Line.with_arrivals.Tie as tie
+
+add-self : tie.Need-add-self
+add-self c = search needs
+
+returns : tie.Need-returns
+unfolding withArrivals
+returns c = refl
+
+pub with-arrivals-spec : {M : Type 1} → statement M
+with-arrivals-spec = tie.close (tie.spec add-self returns)

@@ -1,0 +1,48 @@
+-- A line's mark, its changes and its figures (document 01, "The book").
+use Prim.Native.Nat.{ℕ, _+_, _-_, min}
+use lib.Dec.{eqb}
+use Rattle.cells.specs.Bytes.{pick}
+use Rattle.entry.specs.declared.line.Mark.{Mark}
+use Rattle.entry.specs.declared.line.Mark.the-variants.{Unmarked, Held, Dropped}
+use Rattle.entry.specs.declared.line.Line.{Line}
+use Rattle.entry.specs.declared.line.Figures.{Figures}
+
+-- a mark's byte: 0 none, 1 J, 2 N
+abbrev pub markOf : ℕ → Mark
+markOf b = pick (eqb b 1) Held (pick (eqb b 2) Dropped Unmarked)
+
+unfoldable pub markByte : Mark → ℕ
+markByte Unmarked = 0
+markByte Held = 1
+markByte Dropped = 2
+
+-- the line with its mark set, and with so many copies more
+unfoldable pub withMark : Mark → Line → Line
+withMark m l = record { ordered = l .ordered; arrived = l .arrived; mark = m }
+
+unfoldable pub withArrivals : ℕ → Line → Line
+withArrivals n l = record { ordered = l .ordered; arrived = l .arrived + n; mark = l .mark }
+
+-- Q minus filled is let go where the last mark is N, otherwise open
+unfoldable pub openOf : Mark → ℕ → ℕ
+openOf Unmarked n = n
+openOf Held n = n
+openOf Dropped n = 0
+
+unfoldable pub letGoOf : Mark → ℕ → ℕ
+letGoOf Unmarked n = 0
+letGoOf Held n = 0
+letGoOf Dropped n = n
+
+-- filled is the smaller of Q and A, extra is A minus filled
+unfoldable pub filledOf : Line → ℕ
+filledOf l = min (l .ordered) (l .arrived)
+
+unfoldable pub figuresOf : Line → Figures
+figuresOf l = record {
+  ordered = l .ordered;
+  filled = filledOf l;
+  «still_open» = openOf (l .mark) (l .ordered - filledOf l);
+  «let_go» = letGoOf (l .mark) (l .ordered - filledOf l);
+  extra = l .arrived - filledOf l;
+}

@@ -1,0 +1,88 @@
+-- Where a line and a slip stand in the lent bytes, and what their bytes say. Numbers are little-endian.
+use Prim.Native.Nat.{ℕ, _+_, _*_}
+use mathlib.Core.Bool.{Bool, _&&_}
+use mathlib.Core.List.{List, _∷_, _++_}
+use lib.Dec.{leb, ltb}
+use lib.ListN.{getD}
+use lib.Seq.{slice, sets}
+use Rattle.cells.specs.Bytes.{within, same}
+use Rattle.cells.specs.Little.{leAt, leBytes}
+use Rattle.entry.specs.Line.{markOf, markByte}
+use Rattle.entry.specs.declared.line.Line.{Line}
+
+-- a line is 56 bytes: key 49, Q 2, mark 1, A 4
+abbrev pub lineWidth : ℕ
+lineWidth = 56
+
+abbrev pub keyWidth : ℕ
+keyWidth = 49
+
+abbrev pub markAt : ℕ
+markAt = 51
+
+abbrev pub arrivedAt : ℕ
+arrivedAt = 52
+
+-- a slip is 50 bytes: key 46, line index 2, quantity 2
+abbrev pub slipWidth : ℕ
+slipWidth = 50
+
+abbrev pub slipKeyWidth : ℕ
+slipKeyWidth = 46
+
+abbrev pub slipCopiesPlace : ℕ
+slipCopiesPlace = 48
+
+-- Q is 1 to 9,999, A at most 9,999,999, the mark one of the three
+abbrev pub mostCopies : ℕ
+mostCopies = 9999
+
+abbrev pub mostArrived : ℕ
+mostArrived = 9999999
+
+unfoldable pub lineAt : List ℕ → ℕ → Line
+lineAt lines i = record {
+  ordered = leAt lines (lineWidth * i + keyWidth) 2;
+  arrived = leAt lines (lineWidth * i + arrivedAt) 4;
+  mark = markOf (getD lines (lineWidth * i + markAt) 0);
+}
+
+-- the seven bytes of a line after its key
+unfoldable pub lineBytes : Line → List ℕ
+lineBytes l = leBytes 2 (l .ordered) ++ (markByte (l .mark) ∷ leBytes 4 (l .arrived))
+
+unfoldable pub putLine : List ℕ → ℕ → Line → List ℕ
+putLine lines i l = sets lines (lineWidth * i + keyWidth) (lineBytes l)
+
+unfoldable pub addLine : List ℕ → ℕ → List ℕ → Line → List ℕ
+addLine lines i key l = sets lines (lineWidth * i) (key ++ lineBytes l)
+
+unfoldable pub keyAt : List ℕ → ℕ → List ℕ
+keyAt lines i = slice (lineWidth * i) (lineWidth * i + keyWidth) lines
+
+unfoldable pub keyIs : List ℕ → List ℕ → ℕ → Bool
+keyIs lines key i = same (keyAt lines i) key
+
+unfoldable pub lineSound : List ℕ → ℕ → Bool
+lineSound lines i =
+    within 1 mostCopies (leAt lines (lineWidth * i + keyWidth) 2)
+    && (leb (getD lines (lineWidth * i + markAt) 0) 2 && leb (leAt lines (lineWidth * i + arrivedAt) 4) mostArrived)
+
+unfoldable pub slipKeyAt : List ℕ → ℕ → List ℕ
+slipKeyAt slips j = slice (slipWidth * j) (slipWidth * j + slipKeyWidth) slips
+
+unfoldable pub slipIs : List ℕ → List ℕ → ℕ → Bool
+slipIs slips key j = same (slipKeyAt slips j) key
+
+unfoldable pub slipLineAt : List ℕ → ℕ → ℕ
+slipLineAt slips j = leAt slips (slipWidth * j + slipKeyWidth) 2
+
+unfoldable pub slipCopiesAt : List ℕ → ℕ → ℕ
+slipCopiesAt slips j = leAt slips (slipWidth * j + slipCopiesPlace) 2
+
+unfoldable pub addSlip : List ℕ → ℕ → List ℕ → ℕ → ℕ → List ℕ
+addSlip slips j key line copies = sets slips (slipWidth * j) (key ++ (leBytes 2 line ++ leBytes 2 copies))
+
+-- each slip names a used line
+unfoldable pub slipSound : ℕ → List ℕ → ℕ → Bool
+slipSound lines slips j = ltb (slipLineAt slips j) lines

@@ -1,0 +1,3 @@
+// A line and a slip of the book: as values, and in lent bytes at fixed widths.
+pub mod line;
+pub mod stored;

@@ -1,0 +1,128 @@
+// Lines and slips in lent bytes. A line is its key, Q, mark and A; a slip is its key, the index of its line and its quantity.
+ghost use mathlib.Core.Path.{_≡_};
+ghost use Prim.Native.Nat.{_+_, _*_, _≤_, _<_};
+ghost use lib.ListN.{length};
+ghost use Rattle.entry.specs.Stored.{lineWidth, keyWidth, slipWidth, slipKeyWidth, lineAt, keyIs, putLine, addLine, lineSound, slipIs, slipLineAt, slipCopiesAt, addSlip};
+use crate::line::Line;
+use crate::line::mark_byte;
+use crate::line::mark_of;
+use cells::little::get2;
+use cells::little::get4;
+use cells::little::put2;
+use cells::little::put4;
+use cells::part;
+use cells::paste_at;
+use cells::same;
+
+pub const LINE_WIDTH: usize = 56;
+
+pub const KEY_WIDTH: usize = 49;
+
+pub const MARK_AT: usize = 51;
+
+pub const ARRIVED_AT: usize = 52;
+
+pub const SLIP_WIDTH: usize = 50;
+
+pub const SLIP_KEY_WIDTH: usize = 46;
+
+pub const SLIP_COPIES_AT: usize = 48;
+
+pub const MOST_COPIES: u64 = 9999;
+
+pub const MOST_ARRIVED: u64 = 9999999;
+
+pub const MOST_MARK: u8 = 2;
+
+// The line with an index.
+pub fn read_line(lines: &[u8], i: usize) -> Line
+    requires { ⌜ lineWidth * i + lineWidth ≤ length (now lines) ⌝ }
+    ensures { λ r. ⌜ r ≡ lineAt (now (lines .entry)) i ⌝ }
+{
+    let at = LINE_WIDTH * i;
+    let ordered = get2(lines, at + KEY_WIDTH);
+    let mark = mark_of(lines[at + MARK_AT]);
+    let arrived = get4(lines, at + ARRIVED_AT);
+    Line {
+        ordered,
+        arrived,
+        mark,
+    }
+}
+
+// The values of the line with an index; its key stays.
+pub fn write_line(lines: &mut [u8], i: usize, l: Line)
+    requires { ⌜ lineWidth * i + lineWidth ≤ length (now lines) ⌝ }
+    ensures { λ _. ⌜ now (lines .exit) ≡ putLine (now (lines .entry)) i l ⌝ }
+{
+    let at = LINE_WIDTH * i;
+    let mark = l.mark;
+    put2(lines, at + KEY_WIDTH, l.ordered);
+    lines[at + MARK_AT] = mark_byte(mark);
+    put4(lines, at + ARRIVED_AT, l.arrived);
+}
+
+// A line with its key.
+pub fn write_new_line(lines: &mut [u8], i: usize, key: &[u8], l: Line)
+    requires { ⌜ (length (now key) ≡ keyWidth) × (lineWidth * i + lineWidth ≤ length (now lines)) ⌝ }
+    ensures { λ _. ⌜ now (lines .exit) ≡ addLine (now (lines .entry)) i (now (key .entry)) l ⌝ }
+{
+    paste_at(lines, LINE_WIDTH * i, key);
+    write_line(lines, i, l);
+}
+
+// Whether the line with an index has a key, compared in place.
+pub fn key_is(lines: &[u8], i: usize, key: &[u8]) -> bool
+    requires { ⌜ lineWidth * i + lineWidth ≤ length (now lines) ⌝ }
+    ensures { λ r. ⌜ r ≡ keyIs (now (lines .entry)) (now (key .entry)) i ⌝ }
+{
+    let at = LINE_WIDTH * i;
+    same(part(lines, at, at + KEY_WIDTH), key)
+}
+
+// Whether Q, the mark and A are within their bounds.
+pub fn is_line_sound(lines: &[u8], i: usize) -> bool
+    requires { ⌜ lineWidth * i + lineWidth ≤ length (now lines) ⌝ }
+    ensures { λ r. ⌜ r ≡ lineSound (now (lines .entry)) i ⌝ }
+{
+    let at = LINE_WIDTH * i;
+    let ordered = get2(lines, at + KEY_WIDTH);
+    let mark = lines[at + MARK_AT];
+    let arrived = get4(lines, at + ARRIVED_AT);
+    ((1 <= ordered) & (ordered <= MOST_COPIES)) & ((mark <= MOST_MARK) & (arrived <= MOST_ARRIVED))
+}
+
+// Whether the slip with an index has a key, compared in place.
+pub fn slip_is(slips: &[u8], j: usize, key: &[u8]) -> bool
+    requires { ⌜ slipWidth * j + slipWidth ≤ length (now slips) ⌝ }
+    ensures { λ r. ⌜ r ≡ slipIs (now (slips .entry)) (now (key .entry)) j ⌝ }
+{
+    let at = SLIP_WIDTH * j;
+    same(part(slips, at, at + SLIP_KEY_WIDTH), key)
+}
+
+// The index of a slip's line.
+pub fn slip_line(slips: &[u8], j: usize) -> usize
+    requires { ⌜ slipWidth * j + slipWidth ≤ length (now slips) ⌝ }
+    ensures { λ r. ⌜ r ≡ slipLineAt (now (slips .entry)) j ⌝ }
+{
+    get2(slips, SLIP_WIDTH * j + SLIP_KEY_WIDTH) as usize
+}
+
+pub fn slip_copies(slips: &[u8], j: usize) -> u64
+    requires { ⌜ slipWidth * j + slipWidth ≤ length (now slips) ⌝ }
+    ensures { λ r. ⌜ r ≡ slipCopiesAt (now (slips .entry)) j ⌝ }
+{
+    get2(slips, SLIP_WIDTH * j + SLIP_COPIES_AT)
+}
+
+// A slip with its key, the index of its line and its quantity.
+pub fn write_slip(slips: &mut [u8], j: usize, key: &[u8], line: usize, copies: u64)
+    requires { ⌜ (length (now key) ≡ slipKeyWidth) × (slipWidth * j + slipWidth ≤ length (now slips)) ⌝ }
+    ensures { λ _. ⌜ now (slips .exit) ≡ addSlip (now (slips .entry)) j (now (key .entry)) line copies ⌝ }
+{
+    let at = SLIP_WIDTH * j;
+    paste_at(slips, at, key);
+    put2(slips, at + SLIP_KEY_WIDTH, line as u64);
+    put2(slips, at + SLIP_COPIES_AT, copies);
+}
