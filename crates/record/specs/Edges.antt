@@ -66,6 +66,7 @@ orderEdges =
     ∷ row reads (put 4 "43 210    " X) 5 4
     ∷ row reads (put 4 " 43210    " X) 5 4
     ∷ row reads (put 4 "4321a     " X) 5 4
+    ∷ row reads (put 4 "4321*     " X) 5 4  -- a star may not stand in an address
     ∷ row reads (put 14 "IB" X) 0 0
     ∷ row reads (put 14 "SA" X) 0 0
     ∷ row reads (put 14 "XX" X) 5 14
@@ -116,6 +117,7 @@ orderEdges =
     ∷ row reads (put 46 "641    100072RK" X) 5 46
     ∷ row reads (put 46 "641     0007 RK" X) 5 46
     ∷ row reads (put 46 "97834427568 1EN" X) 5 46
+    ∷ row reads (put 46 "641  *  00072RK" X) 5 46  -- nor in an article
     ∷ row reads (put 46 "whatever     XX" X) 5 59  -- an unknown qualifier breaks its own rule
     ∷ row reads (put 46 "               " X) 5 59
     ∷ row reads (put 61 "0000" X) 0 0
@@ -205,6 +207,16 @@ walkEdges =
     ∷ row reads (withBytes (times 64 (bytes "*9007123") ++ bytes "*12") X) 6 579
     ∷ row reads (withBytes (times 64 (bytes "*9007123")) X ++ bytes "1") 7 579
     ∷ []
+
+-- what stands in the table after a check: a record with two fields and a table with room for 64 and one number more; the same table, one number too short
+unfoldable pub titled : List ℕ
+titled = with "*1017Title*1018KL" X
+
+unfoldable pub fullTable : List ℕ
+fullTable = replicate 193 7
+
+unfoldable pub shortTable : List ℕ
+shortTable = replicate 191 7
 
 -- 9 at each listed content
 unfoldable pub contentEdges : List Row
