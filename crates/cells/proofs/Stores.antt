@@ -1,13 +1,13 @@
 -- What a run of stores leaves to read: at its places what was stored, elsewhere what stood there.
-use mathlib.Core.Path.{_≡_, refl, ap, ap₂, _∙_}
-use mathlib.Core.List.{List, [], _∷_, _++_, append-assoc}
+use mathlib.Core.Path.{_≡_, refl, sym, ap, ap₂, _∙_}
+use mathlib.Core.List.{List, [], _∷_, _++_, append-assoc, append-nil}
 use mathlib.Core.Logic.{_⊎_, _≢_, inl, inr, ⊎-elim}
 use Prim.Native.Nat.{ℕ, zero, suc, _+_, _*_, _≤_, _<_}
-use native.Mathlib.Nat.{add-zero, add-suc, suc-add, not-suc-le-zero, mul-le-mul-left, mul-suc, add-assoc}
+use native.Mathlib.Nat.{zero-add, add-zero, add-suc, suc-add, not-suc-le-zero, mul-le-mul-left, mul-suc, add-assoc}
 use native.Mathlib.Decide.{decLe}
 use native.Mathlib.Omega.{arith}
 use lib.ListN.{length, getD, take, drop, set, length-set, length-take, length-drop}
-use lib.Seq.{sets, sets-eq, slice, getD-set-same, getD-set-other, getD-take, getD-drop, ext-getD, drop-at, take-at, length-take-le}
+use lib.Seq.{sets, sets-eq, set-comm, slice, drop-length, getD-set-same, getD-set-other, getD-take, getD-drop, ext-getD, drop-at, take-at, length-take-le}
 use Rattle.cells.specs.Little.{leAt}
 use Rattle.cells.proofs.Parts.{take-from}
 
@@ -16,6 +16,24 @@ pub sets-append : (s : List ℕ) (i : ℕ) (xs ys : List ℕ) → sets s i (xs +
 sets-append s i [] ys = rw add-zero
 sets-append s i (x ∷ xs) ys =
     sets-append (set s i x) (suc i) xs ys ∙ ap (λ (k : ℕ). sets (sets (set s i x) (suc i) xs) k ys) (omega arith)
+
+-- a run stored behind another is stored with it
+pub sets-then : (s : List ℕ) (i w : ℕ) (xs ys : List ℕ) {d e : List ℕ} {k : ℕ}
+    → d ≡ sets s i xs → length xs ≡ w → k ≡ i + w → e ≡ sets d k ys → e ≡ sets s i (xs ++ ys)
+sets-then s i w xs ys a n b c = rw (c, a, b, ← n) (sym (sets-append s i xs ys))
+
+-- the last store of a run may as well come first
+pub sets-last : (s : List ℕ) (i : ℕ) (xs : List ℕ) (y : ℕ) → sets s i (xs ++ (y ∷ [])) ≡ sets (set s (i + length xs) y) i xs
+sets-last s i [] y = rw add-zero refl
+sets-last s i (x ∷ xs) y =
+    let e : suc i + length xs ≡ i + suc (length xs) = omega arith in
+    sets-last (set s i x) (suc i) xs y
+    ∙ ap (λ (d : List ℕ). sets d (suc i) xs) (rw e (set-comm s i (i + suc (length xs)) x y (λ p. omega arith)))
+
+-- a run stored over a whole list of its length is what is then there
+pub sets-whole : (s xs : List ℕ) → length s ≡ length xs → sets s 0 xs ≡ xs
+sets-whole s xs e =
+    sets-eq xs s 0 (omega arith) ∙ ap (λ (n : ℕ). xs ++ drop n s) (zero-add (length xs)) ∙ rw (← e, drop-length) (append-nil xs)
 
 -- before and after the run nothing changed
 pub sets-before : (s : List ℕ) (i : ℕ) (xs : List ℕ) (j : ℕ) → j < i → getD (sets s i xs) j 0 ≡ getD s j 0

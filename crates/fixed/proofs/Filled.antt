@@ -6,9 +6,8 @@ use native.Mathlib.Nat.{add-zero}
 use native.Mathlib.Omega.{arith}
 use lib.ListN.{length, replicate, length-append, length-replicate}
 use lib.Seq.{sets}
-use Rattle.values.proofs.Arrays.{sets-whole}
+use Rattle.cells.proofs.Stores.{sets-append, sets-whole}
 use Rattle.writing.specs.Typed.{joined}
-use Rattle.writing.proofs.Stores.{sets-append}
 
 -- the parts, stored in d from `base + at` on, give out and end at `base + n`
 pub record Filled (n base at : ℕ) (ps : List (List ℕ)) (d out : List ℕ) : Type 0 where

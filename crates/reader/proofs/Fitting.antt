@@ -58,10 +58,10 @@ unfolding _then_
 then-second (Refused r) b n e = let z : _≡_ {A = ℕ} 0 1 = cc in absurd (omega arith)
 then-second (Fits m) b n e = e
 
--- a stage that passes by a test
-passed : (b : Bool) (r : Refusal) (m : ℕ) → pick b (Fits 0) (Refused r) ≡ Fits m → b ≡ true
-passed true r m e = refl
-passed false r m e = let z : _≡_ {A = ℕ} 0 1 = cc in absurd (omega arith)
+-- a test that is passed, and what comes after it
+pub passed : (b : Bool) (v : Verdict) (r : Refusal) (n : ℕ) → pick b v (Refused r) ≡ Fits n → (b ≡ true) × (v ≡ Fits n)
+passed true v r n e = (refl, e)
+passed false v r n e = let z : _≡_ {A = ℕ} 0 1 = cc in absurd (omega arith)
 
 -- what the two walks say of optional fields that fit
 optional-walk : (k : Kind) (p : ℕ) (t : List ℕ) (v : Verdict) (n : ℕ) → afterWalk k p t v ≡ Fits n
@@ -94,8 +94,8 @@ fitting k s n g e =
     let last = optional-walk k (fixedWidth k) (drop (fixedWidth k) s) _ n (then-second (fixedJudged k s) _ n rest) in
     record {
       wide = w;
-      allowed = eqb-true _ _ (passed _ _ _ (one .1));
-      kept = eqb-true _ _ (passed _ _ _ (two .1));
+      allowed = eqb-true _ _ (passed _ _ _ _ (one .1) .0);
+      kept = eqb-true _ _ (passed _ _ _ _ (two .1) .0);
       walked = last .0;
       whole = last .1;
     }
@@ -117,29 +117,28 @@ module _ (name s : List ℕ) (n : ℕ) (e : judgedAs name s ≡ Fits n) where
       (λ h. let z : _≡_ {A = ℕ} 0 1 = cc (as-long name s (ltb-true _ _ h)) in absurd (omega arith))
       (λ h. ltb-false _ _ h)
 
-  pub named-so : same (slice 0 4 s) name ≡ true
+  named-so : same (slice 0 4 s) name ≡ true
   named-so =
       split (same (slice 0 4 s) name) (λ h. h)
       (λ h. let z : _≡_ {A = ℕ} 0 1 = cc (as-other name s as-long-enough h) in absurd (omega arith))
+
+  pub name-of : slice 0 4 s ≡ name
+  name-of = same-true _ _ named-so
 
   pub fits-as : judged s ≡ Fits n
   fits-as = sym (as-named name s as-long-enough named-so) ∙ e
 
 -- a record that fits as the kind with a name has that kind's fixed part
 module _ (s : List ℕ) (n : ℕ) where
-  -- its first four bytes
-  name-of : (name : List ℕ) → judgedAs name s ≡ Fits n → slice 0 4 s ≡ name
-  name-of name e = same-true _ _ (named-so name s n e)
-
   pub order-wide : judgedAs (bytes "B101") s ≡ Fits n → fixedWidth Order ≤ length s
   unfolding kindOf same
   order-wide e =
-      omega (arith, fits-wide Order s n (rw (name-of (bytes "B101") e)) (fits-as (bytes "B101") s n e))
+      omega (arith, fits-wide Order s n (rw (name-of (bytes "B101") s n e)) (fits-as (bytes "B101") s n e))
 
   pub report-wide : judgedAs (bytes "M101") s ≡ Fits n → fixedWidth Report ≤ length s
   unfolding kindOf same
   report-wide e =
-      omega (arith, fits-wide Report s n (rw (name-of (bytes "M101") e)) (fits-as (bytes "M101") s n e))
+      omega (arith, fits-wide Report s n (rw (name-of (bytes "M101") s n e)) (fits-as (bytes "M101") s n e))
 
   -- a closing record's fixed part is as long as a goods record's
   either-wide : (b : Bool) → kindOf s ≡ Known (pick b Closing Goods) → judged s ≡ Fits n → fixedWidth Goods ≤ length s
@@ -150,7 +149,7 @@ module _ (s : List ℕ) (n : ℕ) where
   pub delivery-wide : judgedAs (bytes "L101") s ≡ Fits n → fixedWidth Goods ≤ length s
   unfolding kindOf same
   delivery-wide e =
-      either-wide (ofClass Zero dayWidth dayWidth (slice dateStart (dateStart + dayWidth) s)) (rw (name-of (bytes "L101") e))
+      either-wide (ofClass Zero dayWidth dayWidth (slice dateStart (dateStart + dayWidth) s)) (rw (name-of (bytes "L101") s n e))
       (fits-as (bytes "L101") s n e)
 
 -- a record that fits is of some kind

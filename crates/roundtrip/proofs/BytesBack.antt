@@ -22,9 +22,7 @@ use Rattle.rules.proofs.Digits.{width}
 use Rattle.rules.proofs.Fits.{at-most}
 use Rattle.writing.specs.Digits.{digitsOf, numberBytes}
 use Rattle.writing.specs.Typed.{dayDigits, dayBytes, isNoDay, deliveryDayBytes, expectedBytes}
-use Rattle.roundtrip.proofs.Appended.{all-weaker}
-use Rattle.roundtrip.proofs.Sequences.{all-take, all-drop}
-use Rattle.roundtrip.proofs.ListParts.{parts-join, all-one}
+use Rattle.roundtrip.proofs.Sequences.{parts-join, all-one, all-weaker, all-take, all-drop}
 use Rattle.roundtrip.proofs.NumbersBack.{digits-back}
 use Rattle.roundtrip.proofs.ValuesBack.{first-year, on-back}
 

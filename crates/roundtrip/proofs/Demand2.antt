@@ -25,14 +25,14 @@ use Rattle.record.specs.declared.values.Order.{Order}
 use Rattle.record.specs.declared.values.Delivery.{Delivery}
 use Rattle.record.specs.declared.values.Report.{Report}
 use Rattle.reader.proofs.Stages.{as-named}
-use Rattle.reader.proofs.Fitting.{fitting, fits-known, fits-long}
+use Rattle.reader.proofs.Fitting.{fitting, name-of, fits-known, fits-long}
 use Rattle.writing.specs.Write.{write}
 use Rattle.writing.specs.Typed.{joined, orderFields, deliveryFields, reportFields, orderBytes, deliveryBytes, reportBytes}
-use Rattle.roundtrip.specs.Demand2.{written, ReadsBack, WritesBack, OrderShaped, DeliveryShaped, ReportShaped, OrderReadsBack, DeliveryReadsBack, ReportReadsBack}
+use Rattle.roundtrip.specs.Demand2.{ReadsBack, WritesBack, OrderShaped, DeliveryShaped, ReportShaped, OrderReadsBack, DeliveryReadsBack, ReportReadsBack}
 use Rattle.roundtrip.proofs.Sequences.{all-take, run-all}
-use Rattle.roundtrip.proofs.Typed.{name-of, order-values, delivery-values, report-values, order-bytes-of, delivery-bytes-of, report-bytes-of}
+use Rattle.roundtrip.proofs.Typed.{order-values, delivery-values, report-values, order-bytes-of, delivery-bytes-of, report-bytes-of}
 use Rattle.roundtrip.proofs.ReadAfterWrite.{read-after-write}
-use Rattle.roundtrip.proofs.WriteAfterRead.{refused-not, write-after-read}
+use Rattle.roundtrip.proofs.WriteAfterRead.{verdict-fits, write-after-read}
 
 -- a text that fits and begins with a kind's name is read as that kind
 named : (name text : List ℕ) (n : ℕ) → judged text ≡ Fits n → slice 0 4 text ≡ name → judgedAs name text ≡ Fits n
@@ -95,12 +95,7 @@ module _ (table : List ℕ) (count : ℕ) (contents out : List ℕ) where
       let v = ap reportOf f ∙ report-values m _ h (fixed-allowed (reportBytes m) table count contents _ b) in
       record { reads = report-read _ count a ∙ ap (λ (x : Report). record { checked = checkedOf (Fits count); report = x }) v; fields = b .same-fields }
 
--- a verdict answered 0 fits
-verdict-done : (v : Verdict) → checkedOf v .answer ≡ 0 → (n : ℕ) × (v ≡ Fits n)
-unfolding checkedOf
-verdict-done (Refused r) e = absurd (refused-not r e)
-verdict-done (Fits n) e = (n, refl)
-
+-- a typed record is read with what its verdict says
 order-checked : (v : Verdict) (s : List ℕ) → orderFrom v s .checked ≡ checkedOf v
 unfolding orderFrom
 order-checked (Refused r) s = refl
@@ -121,7 +116,7 @@ module _ (s table out : List ℕ) (c : check s table .said .answer ≡ 0) (room 
   pub order-writes-back : readOrder s .checked .answer ≡ 0 → WritesBack (orderBytes (readOrder s .order)) (check s table .table) (check s table .said .fields) s out
   unfolding readOrder kindOf same
   order-writes-back e =
-      let v = verdict-done (judgedAs (bytes "B101") s) (ap (λ (x : Checked). x .answer) (sym (order-checked (judgedAs (bytes "B101") s) s)) ∙ e) in
+      let v = verdict-fits (judgedAs (bytes "B101") s) (ap (λ (x : Checked). x .answer) (sym (order-checked (judgedAs (bytes "B101") s) s)) ∙ e) in
       let r = ap (λ (x : ReadOrder). x .order) (order-read s (v .0) (v .1)) in
       let f = ap orderBytes r ∙ order-bytes-of s (v .0) (v .1) in
       subst (λ (x : List ℕ). WritesBack x (check s table .table) (check s table .said .fields) s out) (sym f)
@@ -130,7 +125,7 @@ module _ (s table out : List ℕ) (c : check s table .said .answer ≡ 0) (room 
   pub report-writes-back : readReport s .checked .answer ≡ 0 → WritesBack (reportBytes (readReport s .report)) (check s table .table) (check s table .said .fields) s out
   unfolding readReport kindOf same
   report-writes-back e =
-      let v = verdict-done (judgedAs (bytes "M101") s) (ap (λ (x : Checked). x .answer) (sym (report-checked (judgedAs (bytes "M101") s) s)) ∙ e) in
+      let v = verdict-fits (judgedAs (bytes "M101") s) (ap (λ (x : Checked). x .answer) (sym (report-checked (judgedAs (bytes "M101") s) s)) ∙ e) in
       let r = ap (λ (x : ReadReport). x .report) (report-read s (v .0) (v .1)) in
       let f = ap reportBytes r ∙ report-bytes-of s (v .0) (v .1) in
       subst (λ (x : List ℕ). WritesBack x (check s table .table) (check s table .said .fields) s out) (sym f)
@@ -145,7 +140,7 @@ module _ (s table out : List ℕ) (c : check s table .said .answer ≡ 0) (room 
   pub delivery-writes-back : readDelivery s .checked .answer ≡ 0 → WritesBack (deliveryBytes (readDelivery s .delivery)) (check s table .table) (check s table .said .fields) s out
   unfolding readDelivery kindOf same
   delivery-writes-back e =
-      let v = verdict-done (judgedAs (bytes "L101") s) (ap (λ (x : Checked). x .answer) (sym (delivery-checked (judgedAs (bytes "L101") s) s)) ∙ e) in
+      let v = verdict-fits (judgedAs (bytes "L101") s) (ap (λ (x : Checked). x .answer) (sym (delivery-checked (judgedAs (bytes "L101") s) s)) ∙ e) in
       let r = ap (λ (x : ReadDelivery). x .delivery) (delivery-read s (v .0) (v .1)) in
       let b = ofClass Zero dayWidth dayWidth (slice dateStart (dateStart + dayWidth) s) in
       let f = ap deliveryBytes r ∙ delivery-bytes-of s (v .0) (v .1) ∙ ap (λ (w : ℕ). take w s) (sym (either-way b)) in

@@ -6,23 +6,14 @@ use Prim.Native.Nat.{ℕ, zero, suc, _+_, _*_, _^_, _/_, _%_, _-_, _<_}
 use native.Mathlib.Nat.{pow-suc, mul-assoc}
 use native.Mathlib.Omega.{arith}
 use borrow.Author.Tests.{le-leb}
-use lib.ListN.{length, length-append}
 use Rattle.rules.specs.Class.{digit, belongs, allOf}
 use Rattle.rules.specs.Number.{numberFrom, number}
 use Rattle.rules.specs.declared.class.Class.the-variants.{Digit}
 use Rattle.writing.specs.Digits.{digitsOf}
 use Rattle.cells.specs.Bytes.{all}
-use Rattle.roundtrip.proofs.Appended.{all-append}
+use Rattle.roundtrip.proofs.Sequences.{all-append}
 
--- w digits are w bytes
-pub digits-length : (w n : ℕ) → length (digitsOf w n) ≡ w
-unfolding digitsOf
-digits-length zero n = refl
-digits-length (suc w) n =
-    let ih = digits-length w (n / 10) in
-    simp length-append (omega arith)
-
--- the last of them is a digit
+-- the last digit written is a digit
 digit-byte : (n : ℕ) → digit (48 + n % 10) ≡ true
 digit-byte n = rw (le-leb 48 (48 + n % 10) (omega arith), le-leb (48 + n % 10) 57 (omega arith))
 

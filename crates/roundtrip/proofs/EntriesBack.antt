@@ -1,22 +1,21 @@
 -- The entries that a check stored for a record name the record's own fields, and with the record as lent contents writing finds no fault in them.
 use mathlib.Core.Path.{_≡_, _∙_, ap, sym, refl}
-use mathlib.Core.Bool.{Bool, true, false}
+use mathlib.Core.Bool.{true}
 use mathlib.Core.List.{List, _++_}
 use Prim.Native.Nat.{ℕ, zero, suc, _+_}
 use native.Mathlib.Omega.{arith}
 use borrow.Author.Tests.{lt-ltb, le-leb}
 use lib.ListN.{length, drop, length-drop}
 use lib.Seq.{drop-drop}
-use Rattle.cells.specs.Bytes.{pick, all}
+use Rattle.cells.specs.Bytes.{all}
 use Rattle.rules.specs.Class.{allowed, belongs}
 use Rattle.rules.specs.declared.class.Class.the-variants.{Allowed}
 use Rattle.record.specs.Contents.{contentKept, groupKept}
 use Rattle.record.specs.Fields.{headWidth, notStar, idOf, contentWidth, contentOf, fieldWidth, afterField, judge, fieldsOf, entriesOf}
-use Rattle.record.specs.declared.answer.Refusal.{Refusal}
-use Rattle.record.specs.declared.answer.Verdict.{Verdict}
-use Rattle.record.specs.declared.answer.Verdict.the-variants.{Refused, Fits}
+use Rattle.record.specs.declared.answer.Verdict.the-variants.{Fits}
 use Rattle.record.specs.declared.layout.Kind.{Kind}
 use Rattle.walks.proofs.Contents.{endOf, width-most, content-width, field-content}
+use Rattle.reader.proofs.Fitting.{passed}
 use Rattle.writing.specs.Write.{entryOf, entries, contentIn, optionalIn, optionalOf, contentByte, inside, writable, nextId, entryKept, fieldsJudged}
 use Rattle.writing.specs.declared.answer.Verdict.the-variants.{Fits as Written}
 use Rattle.writing.specs.declared.entries.Entry.{Entry}
@@ -72,11 +71,6 @@ module _ (s : List ℕ) where
   unfolding entriesOf entries entryOf optionalOf optionalIn fieldsOf
   fields-back zero p rest = refl
   fields-back (suc n) p rest = rw (content-back s p, after-back s p, fields-back n (p + fieldWidth (drop p s)) rest)
-
--- a test that is passed, and what comes after it
-passed : (b : Bool) (x : Verdict) (r : Refusal) (m : ℕ) → pick b x (Refused r) ≡ Fits m → (b ≡ true) × (x ≡ Fits m)
-passed true x r m e = (refl, e)
-passed false x r m e = let a : _≡_ {A = ℕ} 0 1 = cc in absurd (omega arith)
 
 -- what reading says of the n fields from p on, writing says of their entries
 pub judged-back : (k : Kind) (s : List ℕ) → all (belongs Allowed) s ≡ true → (n before i p : ℕ) (rest : List ℕ) (m : ℕ) → Fields n (drop p s)

@@ -17,7 +17,7 @@ use Rattle.writing.specs.Write.{contentByte, contentIn, optionalIn, optionalOf,
 use Rattle.writing.specs.declared.answer.Refusal.the-variants.{Content, Group}
 use Rattle.writing.specs.declared.answer.Verdict.the-variants.{Fits}
 use Rattle.writing.specs.declared.entries.Entry.{Entry}
-use Rattle.roundtrip.proofs.Verdicts.{held}
+use Rattle.writing.proofs.Fitting.{refuses-false}
 use Rattle.roundtrip.proofs.Texts.{Writable, AllWritable, text-id, text-content, text-after, text-starts, last-id}
 
 -- a table's first n entries are n
@@ -54,8 +54,8 @@ module _ (k : Kind) (contents : List ℕ) where
   passes : (before i : ℕ) (e : Entry) (es : List Entry) (m : ℕ) → fieldsJudged k contents before i (e ∷ es) ≡ Fits m → Passed before i e es m
   unfolding fieldsJudged
   passes before i e es m h =
-      let one = held (entryKept k contents e) _ (Content i) m h in
-      let two = held (groupKept before (e .id) (nextId es)) _ (Group i) m (one .1) in
+      let one = refuses-false (entryKept k contents e) _ (Content i) m h in
+      let two = refuses-false (groupKept before (e .id) (nextId es)) _ (Group i) m (one .1) in
       record { kept = one .0; grouped = two .0; others = two .1 }
 
   -- all fields that accepted entries name may be written

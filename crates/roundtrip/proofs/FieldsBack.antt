@@ -5,11 +5,11 @@ use mathlib.Core.List.{List, _∷_, _++_, append-assoc}
 use mathlib.Core.Logic.{_⊎_, inl, inr, ⊎-elim}
 use Prim.Native.Nat.{ℕ, zero, suc, _+_, _≤_, _<_}
 use native.Mathlib.Omega.{arith}
-use borrow.Author.Tests.{eqb-true, eqb-false, leb-true}
-use lib.Dec.{eqb, leb, lit<}
+use borrow.Author.Tests.{eqb-true, eqb-false}
+use lib.Dec.{eqb, lit<}
 use lib.ListN.{length, take, drop, getD, length-take, length-drop, take-append-drop, drop-of-length-le}
 use lib.Seq.{slice, slice-cons, drop-drop}
-use Rattle.cells.specs.Bytes.{bytes, within, all}
+use Rattle.cells.specs.Bytes.{bytes, all}
 use Rattle.cells.proofs.Bools.{split, and-left, and-right}
 use Rattle.rules.specs.Class.{star, digit, belongs, allOf, ofClass}
 use Rattle.rules.specs.Number.{number}
@@ -25,6 +25,7 @@ use Rattle.walks.proofs.Heads.{id-of}
 use Rattle.writing.specs.Digits.{digitsOf}
 use Rattle.writing.specs.Write.{fieldText, optionalText}
 use Rattle.roundtrip.proofs.NumbersBack.{digits-back}
+use Rattle.roundtrip.proofs.BytesBack.{of-length, of-all}
 
 -- a field stands at the front of t, and is not the last
 pub record Standing (t : List ℕ) : Type 0 where
@@ -61,17 +62,12 @@ module _ (t : List ℕ) (id : ℕ) (e : headOf t ≡ Id id) where
 
   -- each is a digit
   digits : all digit (slice 1 headWidth t) ≡ true
-  unfolding ofClass allOf belongs
-  digits = and-right (within 4 4 (length (slice 1 headWidth t))) (all digit (slice 1 headWidth t)) four-digits
+  unfolding allOf belongs
+  digits = of-all Digit 4 (slice 1 headWidth t) four-digits
 
   -- and there are four of them
   four : length (slice 1 headWidth t) ≡ 4
-  unfolding ofClass
-  four =
-      let w = and-left (within 4 4 (length (slice 1 headWidth t))) (allOf Digit (slice 1 headWidth t)) four-digits in
-      let l = leb-true 4 (length (slice 1 headWidth t)) (and-left (leb 4 (length (slice 1 headWidth t))) (leb (length (slice 1 headWidth t)) 4) w) in
-      let u = leb-true (length (slice 1 headWidth t)) 4 (and-right (leb 4 (length (slice 1 headWidth t))) (leb (length (slice 1 headWidth t)) 4) w) in
-      omega arith
+  four = of-length Digit 4 (slice 1 headWidth t) four-digits
 
   -- so t has the five bytes of a head
   pub head-wide : headWidth ≤ length t

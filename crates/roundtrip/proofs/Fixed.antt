@@ -1,31 +1,76 @@
--- A fixed part in which writing finds no fault.
+-- No field of a fixed part is faulty just where each keeps its rule and each byte is allowed.
 use mathlib.Core.Path.{_≡_, ap, refl}
 use mathlib.Core.List.{List, [], _∷_}
-use Prim.Native.Nat.{ℕ, suc, _-_, min, _≤_}
+use Prim.Native.Nat.{ℕ, suc, _+_, _-_, _≤_}
 use native.Mathlib.Omega.{arith}
-use borrow.Author.Tests.{eq-eqb, le-ltb}
-use lib.ListN.{length}
+use borrow.Author.Tests.{le-ltb, ltb-false}
+use lib.Dec.{ltb}
+use lib.ListN.{length, take, drop}
+use lib.Seq.{slice}
 use Rattle.cells.specs.Bytes.{run}
+use Rattle.cells.proofs.Bools.{split}
 use Rattle.rules.specs.Class.{belongs}
+use Rattle.rules.specs.Rule.{keeps}
 use Rattle.rules.specs.declared.class.Class.the-variants.{Allowed}
+use Rattle.rules.proofs.Runs.{run-most}
 use Rattle.record.specs.Layout.{layout, total, fixedWidth, firstBroken}
 use Rattle.record.specs.declared.layout.Field.{Field}
 use Rattle.record.specs.declared.layout.Kind.{Kind}
-use Rattle.record.specs.declared.layout.Kinded.the-variants.{Known}
-use Rattle.writing.specs.Write.{fieldHolding, firstFaulty, fixedJudged}
-use Rattle.writing.specs.declared.answer.Verdict.the-variants.{Fits}
+use Rattle.writing.specs.Write.{fieldHolding, firstFaulty}
 
--- a place past a layout stands in none of its fields
-pub holding-none : (fs : List Field) (p : ℕ) → total fs ≤ p → fieldHolding fs p ≡ length fs
+-- the first field that breaks its rule has no index past the last
+broken-most : (fs : List Field) (s : List ℕ) → firstBroken fs s ≤ length fs
+unfolding firstBroken
+broken-most [] s = omega arith
+broken-most (f ∷ fs) s =
+    let ih = broken-most fs (drop (f .size) s) in
+    split (keeps (f .rule) (slice (f .size) (f .size + 2) s) (take (f .size) s)) (λ e. rw e (omega arith)) (λ e. rw e (omega arith))
+
+-- nor has the field that holds a byte
+holding-most : (fs : List Field) (p : ℕ) → fieldHolding fs p ≤ length fs
+unfolding fieldHolding
+holding-most [] p = omega arith
+holding-most (f ∷ fs) p =
+    let ih = holding-most fs (p - f .size) in
+    split (ltb p (f .size)) (λ e. rw e (omega arith)) (λ e. rw e (omega arith))
+
+-- a byte that no field holds stands past all of them
+holding-none : (fs : List Field) (p : ℕ) → fieldHolding fs p ≡ length fs → total fs ≤ p
 unfolding fieldHolding total
-holding-none [] p h = refl
-holding-none (f ∷ fs) p h = rw (le-ltb p (f .size) (omega arith)) (ap suc (holding-none fs (p - f .size) (omega arith)))
+holding-none [] p e = omega arith
+holding-none (f ∷ fs) p e =
+    split (ltb p (f .size)) (λ h. let z = rw h at e in absurd (omega arith))
+    (λ h.
+    let z = rw h at e in
+    let ih = holding-none fs (p - f .size) (omega arith) in
+    let l = ltb-false p (f .size) h in
+    omega arith)
 
--- the bytes of a fixed part that is as long as its kind's, breaks no rule and holds only bytes allowed are without fault
-pub fixed-fits : (k : Kind) (fixed : List ℕ) → length fixed ≡ fixedWidth k → firstBroken (layout k) fixed ≡ length (layout k)
-    → run (belongs Allowed) fixed ≡ length fixed → fixedJudged (Known k) fixed ≡ Fits 0
-unfolding fixedJudged firstFaulty fixedWidth
-fixed-fits k fixed l b r =
-    let q : fieldHolding (layout k) (run (belongs Allowed) fixed) ≡ length (layout k) = holding-none (layout k) (run (belongs Allowed) fixed) (omega arith) in
-    let m : min (length (layout k)) (length (layout k)) ≡ length (layout k) = omega arith in
-    rw (eq-eqb (length fixed) (total (layout k)) l, b, q, m, eq-eqb (length (layout k)) (length (layout k)) refl)
+-- and the other way round
+holding-past : (fs : List Field) (p : ℕ) → total fs ≤ p → fieldHolding fs p ≡ length fs
+unfolding fieldHolding total
+holding-past [] p h = refl
+holding-past (f ∷ fs) p h = rw (le-ltb p (f .size) (omega arith)) (ap suc (holding-past fs (p - f .size) (omega arith)))
+
+module _ (k : Kind) (fixed : List ℕ) where
+  -- no fixed field is faulty: each keeps its rule
+  pub faultless-kept : firstFaulty k fixed ≡ length (layout k) → firstBroken (layout k) fixed ≡ length (layout k)
+  unfolding firstFaulty
+  faultless-kept e = omega (arith, e, broken-most (layout k) fixed)
+
+  -- none holds a byte that is not allowed
+  faultless-held : firstFaulty k fixed ≡ length (layout k) → fieldHolding (layout k) (run (belongs Allowed) fixed) ≡ length (layout k)
+  unfolding firstFaulty
+  faultless-held e = omega (arith, e, holding-most (layout k) (run (belongs Allowed) fixed))
+
+  module _ (w : length fixed ≡ fixedWidth k) where
+    -- so each byte is allowed
+    pub faultless-allowed : firstFaulty k fixed ≡ length (layout k) → run (belongs Allowed) fixed ≡ length fixed
+    unfolding fixedWidth
+    faultless-allowed e =
+        omega (arith, w, holding-none (layout k) (run (belongs Allowed) fixed) (faultless-held e), run-most (belongs Allowed) fixed)
+
+    -- each keeps its rule and each byte is allowed: no fixed field is faulty
+    pub faultless : firstBroken (layout k) fixed ≡ length (layout k) → run (belongs Allowed) fixed ≡ length fixed → firstFaulty k fixed ≡ length (layout k)
+    unfolding firstFaulty fixedWidth
+    faultless b a = omega (arith, b, holding-past (layout k) (run (belongs Allowed) fixed) (omega (arith, w, a)))

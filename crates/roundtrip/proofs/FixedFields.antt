@@ -18,8 +18,7 @@ use Rattle.record.specs.declared.layout.Field.{Field}
 use Rattle.record.specs.declared.layout.Kind.{Kind}
 use Rattle.record.proofs.Layouts.{start-most, start-next}
 use Rattle.writing.specs.Typed.{joined}
-use Rattle.roundtrip.proofs.Appended.{all-append}
-use Rattle.roundtrip.proofs.ListParts.{parts-join}
+use Rattle.roundtrip.proofs.Sequences.{parts-join, all-append}
 
 -- how long the fields of a layout are
 abbrev pub sizes : List Field → List ℕ

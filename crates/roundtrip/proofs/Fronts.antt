@@ -17,7 +17,7 @@ use Rattle.record.specs.Layout.{kindWidth, dateStart, layout, total, fixedWidth
 use Rattle.record.specs.declared.layout.Field.{Field}
 use Rattle.record.specs.declared.layout.Kind.{Kind}
 use Rattle.record.specs.declared.layout.Kind.the-variants.{Order, Goods, Closing, Report}
-use Rattle.roundtrip.proofs.Appended.{slice-append-le}
+use Rattle.roundtrip.proofs.Sequences.{slice-append-le}
 
 -- every fixed part reaches past the date
 pub date-inside : (k : Kind) → dateStart + dayWidth ≤ fixedWidth k

@@ -1,5 +1,3 @@
-pub mod Accepted
-pub mod Appended
 pub mod BytesBack
 pub mod Demand2
 pub mod DigitsBack
@@ -9,7 +7,6 @@ pub mod FieldsBack
 pub mod Fixed
 pub mod FixedFields
 pub mod Fronts
-pub mod ListParts
 pub mod NumbersBack
 pub mod Promises
 pub mod ReadAfterWrite
@@ -17,5 +14,4 @@ pub mod Sequences
 pub mod Texts
 pub mod Typed
 pub mod ValuesBack
-pub mod Verdicts
 pub mod WriteAfterRead

@@ -2,7 +2,7 @@
 use mathlib.Core.Path.{_≡_, _∙_, ap, sym, refl}
 use mathlib.Core.List.{List}
 use Prim.Native.Nat.{ℕ}
-use Rattle.writing.specs.Write.{writtenOf, writeJudged, entries, optionalOf, recordText, Outcome, outcome, outputAfter, write}
+use Rattle.writing.specs.Write.{writtenOf, writeJudged, Outcome, outcome, outputAfter, write}
 use Rattle.writing.specs.declared.answer.Verdict.{Verdict}
 use Rattle.writing.specs.declared.answer.Verdict.the-variants.{Refused, Fits}
 use Rattle.writing.specs.declared.answer.Written.{Written}

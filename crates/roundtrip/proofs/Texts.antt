@@ -19,8 +19,9 @@ use Rattle.record.specs.declared.answer.Verdict.{Verdict}
 use Rattle.record.specs.declared.answer.Verdict.the-variants.{Fits}
 use Rattle.writing.specs.Digits.{digitsOf}
 use Rattle.writing.specs.Write.{contentByte, fieldText, optionalText}
-use Rattle.roundtrip.proofs.Appended.{all-append, all-weaker, run-append}
-use Rattle.roundtrip.proofs.DigitsBack.{digits-length, digits-all, number-of-digits}
+use Rattle.writing.proofs.Decimals.{digits-length}
+use Rattle.roundtrip.proofs.Sequences.{all-weaker, all-append, run-append}
+use Rattle.roundtrip.proofs.DigitsBack.{digits-all, number-of-digits}
 
 -- a field that may be written: an ID below 9999, and bytes that may stand in a content
 pub record Writable (f : Optional) : Type 0 where

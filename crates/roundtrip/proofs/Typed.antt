@@ -6,8 +6,7 @@ use Prim.Native.Nat.{ℕ, _+_, _≤_}
 use native.Mathlib.Omega.{arith}
 use lib.ListN.{length, getD, take}
 use lib.Seq.{slice}
-use Rattle.cells.specs.Bytes.{pick, bytes, run, same}
-use Rattle.cells.proofs.Lists.{same-true}
+use Rattle.cells.specs.Bytes.{pick, bytes, same}
 use Rattle.rules.specs.Class.{belongs, ofClass}
 use Rattle.rules.specs.Number.{number}
 use Rattle.rules.specs.Day.{dayWidth, dayOf}
@@ -18,19 +17,18 @@ use Rattle.record.specs.Layout.{dateStart, layout, total, fixedWidth, startOf, 
 use Rattle.record.specs.Values.{fieldBytes, orderOf, deliveryOf, reportOf}
 use Rattle.record.specs.Read.{judgedAs}
 use Rattle.record.specs.declared.answer.Verdict.the-variants.{Fits}
-use Rattle.record.specs.declared.layout.Kind.{Kind}
 use Rattle.record.specs.declared.layout.Kind.the-variants.{Order as order, Goods as goods, Closing as closing, Report as report}
-use Rattle.record.specs.declared.layout.Kinded.the-variants.{Known}
 use Rattle.record.specs.declared.values.Order.{Order}
 use Rattle.record.specs.declared.values.Delivery.{Delivery}
 use Rattle.record.specs.declared.values.Report.{Report}
-use Rattle.reader.proofs.Fitting.{Fitting, fitting, named-so, fits-as}
+use Rattle.reader.proofs.Fitting.{Fitting, fitting, name-of, fits-as}
 use Rattle.writing.specs.Typed.{deliveryDayBytes, joined, orderFields, deliveryFields, reportFields, orderBytes, deliveryBytes, reportBytes}
+use Rattle.writing.proofs.Decimals.{number-length}
+use Rattle.writing.proofs.Days.{day-length, delivery-day-length, expected-length}
 use Rattle.roundtrip.specs.Demand2.{OrderShaped, DeliveryShaped, ReportShaped}
-use Rattle.roundtrip.proofs.Sequences.{run-all}
-use Rattle.roundtrip.proofs.ListParts.{one-byte}
+use Rattle.roundtrip.proofs.Sequences.{one-byte}
 use Rattle.roundtrip.proofs.FixedFields.{sizes, field-is, all-joined, fieldsFrom, fields-joined, field-kept, field-length}
-use Rattle.roundtrip.proofs.ValuesBack.{AllAllowed, number-length, day-length, delivery-day-length, expected-length, number-back, day-back, delivery-day-back, expected-back}
+use Rattle.roundtrip.proofs.ValuesBack.{AllAllowed, number-back, day-back, delivery-day-back, expected-back}
 use Rattle.roundtrip.proofs.BytesBack.{number-bytes, zeros-digits, zeros-are, day-bytes, goods-day-bytes, closing-day-bytes, expected-bytes}
 
 -- the fields of a typed record are as long as those of its layout
@@ -146,26 +144,6 @@ report-values m rest h a =
       expected = (ap expectedOf (field 11) ∙ expected-back (m .expected) (ok 11)) i;
     }
 
--- the same of a fixed part as writing accepts it: it keeps its rules, and its run of allowed bytes is the whole
-pub order-back : (o : Order) (rest : List ℕ) → OrderShaped o
-    → firstBroken (layout order) (orderBytes o) ≡ length (layout order)
-    → run (belongs Allowed) (orderBytes o) ≡ length (orderBytes o)
-    → orderOf (orderBytes o ++ rest) ≡ o
-order-back o rest h kept a = order-values o rest h (run-all (belongs Allowed) (orderBytes o) a)
-
-pub delivery-back : (d : Delivery) (rest : List ℕ) (k : Kind) → DeliveryShaped d
-    → kindOf (deliveryBytes d) ≡ Known k
-    → firstBroken (layout k) (deliveryBytes d) ≡ length (layout k)
-    → run (belongs Allowed) (deliveryBytes d) ≡ length (deliveryBytes d)
-    → deliveryOf (deliveryBytes d ++ rest) ≡ d
-delivery-back d rest k h known kept a = delivery-values d rest h (run-all (belongs Allowed) (deliveryBytes d) a)
-
-pub report-back : (m : Report) (rest : List ℕ) → ReportShaped m
-    → firstBroken (layout report) (reportBytes m) ≡ length (layout report)
-    → run (belongs Allowed) (reportBytes m) ≡ length (reportBytes m)
-    → reportOf (reportBytes m ++ rest) ≡ m
-report-back m rest h kept a = report-values m rest h (run-all (belongs Allowed) (reportBytes m) a)
-
 -- the fields made from the values of a record that keeps its rules are the record's own
 order-fields : (s : List ℕ) → slice 0 4 s ≡ bytes "B101" → firstBroken (layout order) s ≡ length (layout order)
     → orderFields (orderOf s) ≡ fieldsFrom (layout order) 0 s
@@ -238,10 +216,6 @@ delivery-fields s name wide date quantity price discount =
     ∷ number-bytes 8 (at 15) discount i
     ∷ one-byte (at 16) (field-length goods s wide 16 (omega arith)) i
     ∷ []
-
--- a record that fits as one wanted kind begins with the kind's name
-pub name-of : (name s : List ℕ) (n : ℕ) → judgedAs name s ≡ Fits n → slice 0 4 s ≡ name
-name-of name s n e = same-true _ _ (named-so name s n e)
 
 -- the fixed part made from the values of a record that fits is the record's own
 pub order-bytes-of : (s : List ℕ) (n : ℕ) → judgedAs (bytes "B101") s ≡ Fits n → orderBytes (orderOf s) ≡ take (fixedWidth order) s

@@ -6,7 +6,7 @@ use Prim.Native.Nat.{ℕ, zero, suc, _^_, _≤_, _<_}
 use native.Mathlib.Omega.{arith}
 use borrow.Author.Tests.{ltb-true, ltb-false, leb-true, eqb-true, ne-eqb}
 use lib.Dec.{eqb, leb, ltb}
-use lib.ListN.{length, getD, replicate, length-replicate, List·getD-eq-default}
+use lib.ListN.{getD, replicate, List·getD-eq-default}
 use Rattle.cells.specs.Bytes.{within, all}
 use Rattle.cells.proofs.Bools.{split, and-left, and-right}
 use Rattle.rules.specs.Class.{belongs, allOf}
@@ -20,31 +20,12 @@ use Rattle.rules.specs.declared.expected.Expected.the-variants.{On, Zeros, Blan
 use Rattle.rules.proofs.Runs.{all-at}
 use Rattle.writing.specs.Digits.{digitsOf, unwritable, numberBytes}
 use Rattle.writing.specs.Typed.{dayDigits, dayBytes, isNoDay, deliveryDayBytes, expectedBytes}
-use Rattle.roundtrip.proofs.DigitsBack.{digits-length, number-of-digits}
-use Rattle.roundtrip.proofs.ListParts.{all-one}
+use Rattle.roundtrip.proofs.Sequences.{all-one}
+use Rattle.roundtrip.proofs.DigitsBack.{number-of-digits}
 
 -- each byte of a list may stand in a record
 abbrev pub AllAllowed : List ℕ → Type 0
 AllAllowed s = all (belongs Allowed) s ≡ true
-
--- how long the bytes of a value are, whatever the value
-pub number-length : (w n : ℕ) → length (numberBytes w n) ≡ w
-unfolding numberBytes unwritable
-number-length w n = split (ltb n (10 ^ w)) (λ e. rw e (digits-length w n)) (λ e. rw e (length-replicate w 0))
-
-pub day-length : (d : Day) → length (dayBytes d) ≡ dayWidth
-unfolding dayBytes dayDigits digitsOf unwritable
-day-length d = split (realDay d) (λ e. rw e) (λ e. rw e)
-
-pub delivery-day-length : (d : Day) → length (deliveryDayBytes d) ≡ dayWidth
-unfolding deliveryDayBytes
-delivery-day-length d = split (isNoDay d) (λ e. rw e) (λ e. rw e (day-length d))
-
-pub expected-length : (x : Expected) → length (expectedBytes x) ≡ dayWidth
-unfolding expectedBytes
-expected-length (On d) = day-length d
-expected-length Zeros = refl
-expected-length Blanks = refl
 
 -- bytes that stand for no value are not allowed
 not-allowed : (w : ℕ) → 0 < w → AllAllowed (unwritable w) → ⊥

@@ -28,15 +28,16 @@ use Rattle.reader.proofs.Stages.{small-table, check-fits}
 use Rattle.reader.proofs.Fitting.{Fitting, fitting, fits-long, fits-count}
 use Rattle.writing.specs.Write.{entries, optionalOf, fieldsJudged, recordText, fixedJudged, lengthJudged, restJudged, writeJudged, writtenOf, outputAfter, write, _then_}
 use Rattle.writing.specs.declared.answer.Verdict.the-variants.{Fits as Written}
+use Rattle.writing.proofs.Stages.{fixed-fits}
 use Rattle.roundtrip.specs.Demand2.{WritesBack}
 use Rattle.roundtrip.proofs.Sequences.{run-all, all-whole, all-take}
 use Rattle.roundtrip.proofs.Fronts.{date-inside, kind-front, broken-front}
-use Rattle.roundtrip.proofs.Fixed.{fixed-fits}
+use Rattle.roundtrip.proofs.Fixed.{faultless}
 use Rattle.roundtrip.proofs.FieldsBack.{Fields, walked-fields, text-back}
 use Rattle.roundtrip.proofs.EntriesBack.{fields-back, judged-back}
 
 -- no refusal is answered 0
-pub refused-not : (r : Refusal) → refusalNumber r ≡ 0 → ⊥
+refused-not : (r : Refusal) → refusalNumber r ≡ 0 → ⊥
 unfolding refusalNumber
 refused-not TooLong e = omega arith
 refused-not UnknownKind e = omega arith
@@ -51,7 +52,7 @@ refused-not (Group p) e = omega arith
 refused-not SmallTable e = omega arith
 
 -- a verdict that is answered 0 fits
-verdict-fits : (v : Verdict) → checkedOf v .answer ≡ 0 → (n : ℕ) × (v ≡ Fits n)
+pub verdict-fits : (v : Verdict) → checkedOf v .answer ≡ 0 → (n : ℕ) × (v ≡ Fits n)
 unfolding checkedOf
 verdict-fits (Refused r) e = absurd (refused-not r e)
 verdict-fits (Fits n) e = (n, refl)
@@ -114,8 +115,8 @@ module _ (k : Kind) (s : List ℕ) (n : ℕ) (g : kindOf s ≡ Known k) (e : jud
   -- and is without fault
   pub fixed-done : fixedJudged (Known k) (fixedOf k s) ≡ Written 0
   fixed-done =
-      fixed-fits k (fixedOf k s) fixed-length fixed-kept
-      (all-whole (belongs Allowed) (fixedOf k s) (all-take (belongs Allowed) (fixedWidth k) s all-allowed))
+      let a = all-whole (belongs Allowed) (fixedOf k s) (all-take (belongs Allowed) (fixedWidth k) s all-allowed) in
+      fixed-fits k (fixedOf k s) fixed-length (faultless k (fixedOf k s) fixed-length fixed-kept a)
 
   module _ (rest : List ℕ) where
     -- its fixed part and the fields that the entries name are the record again

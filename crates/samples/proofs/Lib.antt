@@ -1,1 +1,3 @@
+pub mod Booked
 pub mod Sampled
+pub mod Written

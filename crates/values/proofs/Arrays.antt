@@ -1,17 +1,12 @@
 -- Arrays filled from a part of a list.
-use mathlib.Core.Path.{_≡_, _∙_, ap}
-use mathlib.Core.List.{List, _++_, append-nil}
+use mathlib.Core.Path.{_≡_}
+use mathlib.Core.List.{List}
 use Prim.Native.Nat.{ℕ, _+_, _≤_}
-use native.Mathlib.Nat.{zero-add}
 use native.Mathlib.Omega.{arith}
-use lib.ListN.{length, drop}
-use lib.Seq.{slice, sets, sets-eq, drop-length, length-slice}
+use lib.ListN.{length}
+use lib.Seq.{slice, sets, length-slice}
+use Rattle.cells.proofs.Stores.{sets-whole}
 use Rattle.rules.proofs.Parts.{part-most}
-
--- a list stored over a whole list of the same length is what is then there
-pub sets-whole : (d v : List ℕ) → length d ≡ length v → sets d 0 v ≡ v
-sets-whole d v e =
-    sets-eq v d 0 (omega arith) ∙ ap (λ (n : ℕ). v ++ drop n d) (zero-add (length v)) ∙ rw (← e, drop-length) (append-nil v)
 
 -- the n bytes from a place on: no more than n of them, and stored over an array of n they are what it then holds
 module _ (n at : ℕ) (s : List ℕ) where

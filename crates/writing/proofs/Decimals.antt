@@ -9,8 +9,8 @@ use lib.ListN.{length, set, replicate, length-append, length-replicate, replicat
 use lib.Seq.{sets}
 use borrow.Author.Tests.{lt-ltb, le-ltb}
 use Rattle.cells.proofs.Bools.{split}
+use Rattle.cells.proofs.Stores.{sets-last}
 use Rattle.writing.specs.Digits.{digitsOf, unwritable, numberBytes}
-use Rattle.writing.proofs.Stores.{sets-last}
 
 -- each is as many bytes as its width says
 pub digits-length : (w n : ℕ) → length (digitsOf w n) ≡ w

@@ -31,7 +31,7 @@ refuses-true : (b : Bool) (r : Refusal) (v : Verdict) (n : ℕ) → pick b (Refu
 refuses-true true r v n e = let z : _≡_ {A = ℕ} 0 1 = cc in absurd (omega arith)
 refuses-true false r v n e = (refl, e)
 
-refuses-false : (b : Bool) (v : Verdict) (r : Refusal) (n : ℕ) → pick b v (Refused r) ≡ Fits n → (b ≡ true) × (v ≡ Fits n)
+pub refuses-false : (b : Bool) (v : Verdict) (r : Refusal) (n : ℕ) → pick b v (Refused r) ≡ Fits n → (b ≡ true) × (v ≡ Fits n)
 refuses-false true v r n e = (refl, e)
 refuses-false false v r n e = let z : _≡_ {A = ℕ} 0 1 = cc in absurd (omega arith)
 

@@ -1,10 +1,9 @@
-pub mod Computed
 pub mod Contents
+pub mod Days
 pub mod Decimals
 pub mod Fitting
 pub mod Holding
 pub mod Records
 pub mod Stages
-pub mod Stores
 pub mod Tables
 pub mod Widths

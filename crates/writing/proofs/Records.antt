@@ -11,12 +11,12 @@ use lib.Seq.{slice, sets, length-slice}
 use borrow.Author.Tests.{leb-true}
 use Rattle.cells.specs.Bytes.{bytes}
 use Rattle.cells.proofs.Bools.{and-left, and-right}
+use Rattle.cells.proofs.Stores.{sets-append}
 use Rattle.record.specs.Fields.{Optional}
 use Rattle.writing.specs.Digits.{digitsOf}
 use Rattle.writing.specs.Widths.{widthAfter, allInside}
 use Rattle.writing.specs.Write.{entries, contentIn, optionalIn, optionalOf, inside, fieldText, optionalText, recordText}
 use Rattle.writing.specs.declared.entries.Entry.{Entry}
-use Rattle.writing.proofs.Stores.{sets-append}
 use Rattle.writing.proofs.Tables.{entries-end}
 use Rattle.writing.proofs.Decimals.{digits-length}
 

@@ -2,8 +2,8 @@
 use mathlib.Core.Path.{refl, sym}
 use native.Mathlib.Omega.{arith}
 use Rattle.writing.specs.Typed.{joined, deliveryFields, deliveryBytes}
+use Rattle.writing.proofs.Days.{delivery-day-length}
 use Rattle.fixed.proofs.Values.{delivery-wide, amounts-length}
-use Rattle.fixed.proofs.Days.{delivery-day-length}
 use Rattle.fixed.proofs.Filled.{filled-last, filled-next, filled-two, filled-whole}
 use borrow.Author.Needs.{needs}
 use Rattle.fixed.proofs.delivery_bytes.Statement.{statement}

@@ -1,8 +1,8 @@
 -- `fixed::put_article` meets its contract: the qualifier stands behind the number.
 use mathlib.Core.Path.{refl}
 use native.Mathlib.Omega.{arith}
+use Rattle.cells.proofs.Stores.{sets-then}
 use Rattle.fixed.proofs.Values.{article-wide}
-use Rattle.writing.proofs.Stores.{sets-then}
 use borrow.Author.Needs.{needs}
 use Rattle.fixed.proofs.put_article.Statement.{statement}
 use Rattle.fixed.proofs.put_article.Tie as tie

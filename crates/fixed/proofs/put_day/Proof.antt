@@ -3,10 +3,10 @@ use mathlib.Core.Path.{refl}
 use mathlib.Core.List.{_++_}
 use Prim.Native.Nat.{_+_}
 use native.Mathlib.Omega.{arith}
+use Rattle.cells.proofs.Stores.{sets-then}
 use Rattle.writing.specs.Digits.{digitsOf}
 use Rattle.writing.specs.Typed.{dayDigits, dayBytes}
 use Rattle.writing.proofs.Decimals.{digits-length}
-use Rattle.writing.proofs.Stores.{sets-then}
 use borrow.Author.Needs.{needs}
 use Rattle.fixed.proofs.put_day.Statement.{statement}
 use Rattle.fixed.proofs.put_day.Tie as tie

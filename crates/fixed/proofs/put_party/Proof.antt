@@ -1,8 +1,8 @@
 -- `fixed::put_party` meets its contract: the qualifier stands behind the address.
 use mathlib.Core.Path.{refl}
 use native.Mathlib.Omega.{arith}
+use Rattle.cells.proofs.Stores.{sets-then}
 use Rattle.fixed.proofs.Values.{party-wide}
-use Rattle.writing.proofs.Stores.{sets-then}
 use borrow.Author.Needs.{needs}
 use Rattle.fixed.proofs.put_party.Statement.{statement}
 use Rattle.fixed.proofs.put_party.Tie as tie

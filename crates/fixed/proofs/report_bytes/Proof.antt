@@ -3,8 +3,8 @@ use mathlib.Core.Path.{refl}
 use native.Mathlib.Omega.{arith}
 use Rattle.writing.specs.Typed.{reportFields, reportBytes}
 use Rattle.writing.proofs.Decimals.{number-length}
+use Rattle.writing.proofs.Days.{expected-length}
 use Rattle.fixed.proofs.Values.{report-wide}
-use Rattle.fixed.proofs.Days.{expected-length}
 use Rattle.fixed.proofs.Filled.{filled-end, filled-next, filled-two, filled-whole}
 use borrow.Author.Needs.{needs}
 use Rattle.fixed.proofs.report_bytes.Statement.{statement}

@@ -1,0 +1,248 @@
+-- A record that answers 0 is accepted by the book that the bytes tell, and the bytes afterwards tell that book with the record entered.
+use mathlib.Core.Path.{_≡_, _∙_, ap, ap₂, sym, refl}
+use mathlib.Core.Bool.{Bool, true, false, _&&_}
+use mathlib.Core.Option.{some}
+use mathlib.Core.List.{List, [], _∷_, _++_}
+use Prim.Native.Nat.{ℕ, _+_, _≤_, _<_}
+use native.Mathlib.Omega.{arith}
+use lib.Dec.{leb, ltb, eqb}
+use lib.ListN.{length}
+use borrow.Author.Tests.{ltb-true, leb-true, eqb-false}
+use Rattle.cells.specs.Bytes.{pick, bytes, same}
+use Rattle.cells.proofs.Bools.{split}
+use Rattle.record.specs.Values.{fieldBytes}
+use Rattle.record.specs.declared.layout.Kind.{Kind}
+use Rattle.record.specs.declared.layout.Kind.the-variants.{Order, Goods, Closing, Report}
+use Rattle.reader.proofs.Fitting.{Fitting, fitting}
+use Rattle.entry.specs.Line.{withMark, withArrivals}
+use Rattle.entry.specs.Stored.{keyWidth, slipKeyWidth, mostCopies, mostArrived, lineAt, putLine, keyAt, keyIs, slipLineAt, slipCopiesAt}
+use Rattle.entry.specs.declared.line.Mark.{Mark}
+use Rattle.entry.specs.declared.line.Line.{Line as Stored}
+use Rattle.entry.proofs.Sound.{Bounded, sound-bounded}
+use Rattle.entry.proofs.Kept.{put-key}
+use Rattle.ledger.specs.Book.{Key, Hold, Line, Slip}
+use Rattle.ledger.specs.Booking.{Fit, order as ordering, goods as arriving, report as telling, done, judge, arrive, tell, changeLine, enter}
+use Rattle.book.specs.Lent.{Lent, usedLines, usedSlips, lineRoom, slipRoom, findLine, findSlip}
+use Rattle.book.specs.Booking.{lineKey, slipKey, copiesIn, markIn, nothingToBook, noCopies, noReference, orderJudged, slipJudged, arrivalJudged, goodsJudged, deliveryJudged, reportJudged, bookJudged, fitJudged, newLine, lineAfter, lentAfter, book}
+use Rattle.balance.specs.Told.{reportOf, lineTold, told, roomsOf, holdOf, fitAs, fitKind, fitOf}
+use Rattle.book.specs.declared.seek.Found.{Found}
+use Rattle.book.specs.declared.seek.Found.the-variants.{At, Nothing}
+use Rattle.book.specs.declared.answer.Refused.{Refused}
+use Rattle.book.specs.declared.answer.Refused.the-variants.{SlipBooked, SlipDiffers}
+use Rattle.book.specs.declared.answer.Verdict.{Verdict}
+use Rattle.book.specs.declared.answer.Verdict.the-variants.{Refuse, Fits}
+use Rattle.book.proofs.Sounds.{sound-so}
+use Rattle.balance.proofs.Listings.{change-listed}
+use Rattle.balance.proofs.Soundness.{Kept}
+use Rattle.book.proofs.Fields.{order-key, slip-key-width, order-copies, goods-copies}
+use Rattle.balance.proofs.Accepted.{Accepts}
+use Rattle.balance.proofs.Entered.{lineOf, withLine, put-here, put-other, put-slips, put-rooms, put-kept, moreLine, add-lines, add-slips, add-rooms, add-kept, moreSlip, slip-lines, slip-slips, slip-rooms, slip-kept}
+use Rattle.balance.proofs.Found.{key-told, line-used, order-passes, goods-passes, report-passes}
+
+-- a verdict that fits after a test that refuses: the test does not hold, and the rest fits
+passed : (t : Bool) (r : Refused) (v : Verdict) (i : ℕ) → pick t (Refuse r) v ≡ Fits i → (t ≡ false) × (v ≡ Fits i)
+passed true r v i e = let z : _≡_ {A = ℕ} 0 1 = cc in absurd (omega arith)
+passed false r v i e = (refl, e)
+
+-- a verdict that fits by a test that lets pass
+let-pass : (t : Bool) (v : Verdict) (r : Refused) (i : ℕ) → pick t v (Refuse r) ≡ Fits i → (t ≡ true) × (v ≡ Fits i)
+let-pass true v r i e = (refl, e)
+let-pass false v r i e = let z : _≡_ {A = ℕ} 0 1 = cc in absurd (omega arith)
+
+-- a record fit to book has copies, and fits the book
+fit-passed : (k : Kind) (s : List ℕ) (b : Lent) (i : ℕ) → fitJudged k s b ≡ Fits i → (noCopies k s ≡ false) × (bookJudged k s b ≡ Fits i)
+unfolding fitJudged
+fit-passed k s b i e =
+    let one = passed (nothingToBook k s) _ _ i e in
+    let two = passed (noCopies k s) _ _ i (one .1) in
+    (two .0, passed (noReference k s) _ _ i (two .1) .1)
+
+module _ (b : Lent) (i : ℕ) where
+  -- an order that fits: no line has its key, and there is room for the next
+  order-fits : (f : Found) → orderJudged b f ≡ Fits i → (f ≡ Nothing) × ((usedLines b < lineRoom b) × (i ≡ usedLines b))
+  unfolding orderJudged
+  order-fits (At j) e = let z : _≡_ {A = ℕ} 0 1 = cc in absurd (omega arith)
+  order-fits Nothing e =
+      let p = let-pass (ltb (usedLines b) (lineRoom b)) _ _ i e in
+      let q = p .1 in
+      (refl, (ltb-true (usedLines b) (lineRoom b) (p .0), cc))
+
+  -- a delivery that fits: no slip has its key, a line has its line key, and there is room for its copies and its slip
+  arrival-fits : (copies j : ℕ) → arrivalJudged b copies j ≡ Fits i
+      → (i ≡ j) × ((lineAt (b .lines) j .arrived + copies ≤ mostArrived) × (usedSlips b < slipRoom b))
+  unfolding arrivalJudged
+  arrival-fits copies j e =
+      let n : ℕ = lineAt (b .lines) j .arrived + copies in
+      let p = let-pass (leb n mostArrived) _ _ i e in
+      let q = let-pass (ltb (usedSlips b) (slipRoom b)) _ _ i (p .1) in
+      let r = q .1 in
+      (cc, (leb-true n mostArrived (p .0), ltb-true (usedSlips b) (slipRoom b) (q .0)))
+
+  goods-fits : (copies : ℕ) (f : Found) → goodsJudged b copies f ≡ Fits i
+      → (f ≡ At i) × ((lineAt (b .lines) i .arrived + copies ≤ mostArrived) × (usedSlips b < slipRoom b))
+  unfolding goodsJudged
+  goods-fits copies Nothing e = let z : _≡_ {A = ℕ} 0 1 = cc in absurd (omega arith)
+  goods-fits copies (At j) e =
+      let p = arrival-fits copies j e in
+      let d = p .0 in
+      (ap At (sym d), (rw d (p .1 .0), p .1 .1))
+
+  delivery-fits : (key : List ℕ) (copies : ℕ) (f : Found) → deliveryJudged b key copies f ≡ Fits i
+      → (f ≡ Nothing) × ((findLine b key ≡ At i) × ((lineAt (b .lines) i .arrived + copies ≤ mostArrived) × (usedSlips b < slipRoom b)))
+  unfolding deliveryJudged slipJudged
+  delivery-fits key copies (At j) e =
+      let p = let-pass (keyIs (b .lines) key (slipLineAt (b .slips) j) && eqb (slipCopiesAt (b .slips) j) copies) (Refuse SlipBooked) SlipDiffers i e in
+      let q = p .1 in
+      let z : _≡_ {A = ℕ} 0 1 = cc in absurd (omega arith)
+  delivery-fits key copies Nothing e = (refl, goods-fits copies (findLine b key) e)
+
+  -- a report that fits: a line has its key
+  report-fits : (f : Found) → reportJudged f ≡ Fits i → f ≡ At i
+  unfolding reportJudged
+  report-fits Nothing e = let z : _≡_ {A = ℕ} 0 1 = cc in absurd (omega arith)
+  report-fits (At j) e = cc
+
+-- the told book accepts the record, is told with it entered, and the lent book stays sound with its rooms
+pub record Follows (b : Lent) (r : Fit) (c : Lent) : Type 0 where
+  pub allowed : judge (roomsOf b) (told b) r ≡ done
+  pub tells : told c ≡ enter (told b) r
+  pub kept : Kept c
+  pub rooms : roomsOf c ≡ roomsOf b
+
+-- the line with a key changed in the bytes is the first with this key changed in the told book
+module _ (b : Lent) (key : Key) (i : ℕ) (l : Stored) (h : Line → Line) (k : Kept b) (f : findLine b key ≡ At i) (bounded : Bounded l) where
+  line-changed : lineOf (keyAt (b .lines) i) l ≡ h (lineTold (b .lines) i) → told (withLine b i l) .lines ≡ changeLine key h (told b .lines)
+  unfolding told changeLine usedLines findLine
+  line-changed e =
+      let used = line-used b key i f .0 in
+      change-listed (λ (l : Line). same key (l .key)) (keyIs (b .lines) key) (lineTold (b .lines)) (key-told b key) h
+      (lineTold (putLine (b .lines) i l)) (usedLines b) 0 i f (put-here b i l k used bounded ∙ e) (put-other b i l k used bounded)
+
+-- an order is entered
+module _ (b : Lent) (key : Key) (copies : ℕ) (k : Kept b) (wide : length key ≡ keyWidth) (least : 1 ≤ copies) (most : copies ≤ mostCopies) where
+  order-entered : findLine b key ≡ Nothing → usedLines b < lineRoom b
+      → Follows b (ordering key (record { copies = copies })) (moreLine b key (newLine copies))
+  unfolding enter newLine lineOf reportOf
+  order-entered e room =
+      let bounded : Bounded (newLine copies) = record { least = least; most = most; sum = omega arith } in
+      record {
+        allowed = order-passes b key (record { copies = copies }) e room;
+        tells = λ x. record {
+          lines = add-lines b key (newLine copies) k room wide bounded x;
+          slips = add-slips b key (newLine copies) k room wide bounded x;
+        };
+        kept = add-kept b key (newLine copies) k room wide bounded;
+        rooms = add-rooms b key (newLine copies) k room wide bounded;
+      }
+
+-- a used line is within its bounds, and stays so with copies that the limit lets pass, and with any mark
+module _ (b : Lent) (k : Kept b) (i : ℕ) (used : i < usedLines b) where
+  bounds : Bounded (lineAt (b .lines) i)
+  bounds = sound-bounded (b .lines) i (sound-so b (k .is-sound) .line-sound i used)
+
+  arrivals-bounded : (copies : ℕ) → lineAt (b .lines) i .arrived + copies ≤ mostArrived → Bounded (withArrivals copies (lineAt (b .lines) i))
+  unfolding withArrivals
+  arrivals-bounded copies h = record { least = bounds .least; most = bounds .most; sum = h }
+
+  mark-bounded : (m : Mark) → Bounded (withMark m (lineAt (b .lines) i))
+  unfolding withMark
+  mark-bounded m = record { least = bounds .least; most = bounds .most; sum = bounds .sum }
+
+-- the changed line is told as the told line changed
+module _ (lines : List ℕ) (i : ℕ) where
+  line-arrives : (copies : ℕ) → lineOf (keyAt lines i) (withArrivals copies (lineAt lines i)) ≡ arrive copies (lineTold lines i)
+  unfolding lineOf withArrivals arrive lineTold
+  line-arrives copies = refl
+
+  line-reported : (m : Mark) (h : Hold) → reportOf m ≡ some (record { hold = h })
+      → lineOf (keyAt lines i) (withMark m (lineAt lines i)) ≡ tell (record { hold = h }) (lineTold lines i)
+  unfolding lineOf withMark tell lineTold
+  line-reported m h e = rw e
+
+-- a delivery is entered
+module _ (b : Lent) (key slip : Key) (copies i : ℕ) (k : Kept b) (wide : length slip ≡ slipKeyWidth) (few : copies ≤ mostCopies) where
+  goods-entered : findSlip b slip ≡ Nothing → findLine b key ≡ At i → lineAt (b .lines) i .arrived + copies ≤ mostArrived → usedSlips b < slipRoom b
+      → Follows b (arriving key (record { slip = slip; copies = copies }))
+      (moreSlip (withLine b i (withArrivals copies (lineAt (b .lines) i))) slip i copies)
+  unfolding enter usedLines usedSlips slipRoom
+  goods-entered e f most room =
+      let l : Stored = withArrivals copies (lineAt (b .lines) i) in
+      let c : Lent = withLine b i l in
+      let used = line-used b key i f .0 in
+      let own = line-used b key i f .1 in
+      let bounded = arrivals-bounded b k i used copies most in
+      let kept = put-kept b i l k used bounded in
+      record {
+        allowed = goods-passes b key (record { slip = slip; copies = copies }) i e f most room;
+        tells = λ x. record {
+          lines = (slip-lines c slip i copies kept room wide used (omega arith) ∙ line-changed b key i l (arrive copies) k f bounded (line-arrives (b .lines) i copies)) x;
+          slips = (slip-slips c slip i copies kept room wide used (omega arith)
+              ∙ ap₂ (λ (t : List Slip) (line : Key). t ++ (record { line = line; says = record { slip = slip; copies = copies } } ∷ []))
+              (put-slips b i l k used bounded) (put-key (b .lines) i l i ∙ own)) x;
+        };
+        kept = slip-kept c slip i copies kept room wide used (omega arith);
+        rooms = slip-rooms c slip i copies kept room wide used (omega arith) ∙ put-rooms b i l k used bounded;
+      }
+
+-- a report is entered
+module _ (b : Lent) (key : Key) (m : Mark) (h : Hold) (i : ℕ) (k : Kept b) where
+  report-entered : reportOf m ≡ some (record { hold = h }) → findLine b key ≡ At i
+      → Follows b (telling key (record { hold = h })) (withLine b i (withMark m (lineAt (b .lines) i)))
+  unfolding enter
+  report-entered e f =
+      let l : Stored = withMark m (lineAt (b .lines) i) in
+      let used = line-used b key i f .0 in
+      let bounded = mark-bounded b k i used m in
+      record {
+        allowed = report-passes b key (record { hold = h }) i f;
+        tells = λ x. record {
+          lines = line-changed b key i l (tell (record { hold = h })) k f bounded (line-reported (b .lines) i m h e) x;
+          slips = put-slips b i l k used bounded x;
+        };
+        kept = put-kept b i l k used bounded;
+        rooms = put-rooms b i l k used bounded;
+      }
+
+-- a report's mark is J or N
+report-mark : (s : List ℕ) → reportOf (markIn s) ≡ some (record { hold = holdOf (markIn s) })
+unfolding markIn reportOf holdOf
+report-mark s = split (same (fieldBytes Report 10 s) (bytes "J")) (λ e. rw e) (λ e. rw e)
+
+module _ (s : List ℕ) (b : Lent) (i n : ℕ) (k : Kept b) where
+  order-follows : Fitting Order s n → fitJudged Order s b ≡ Fits i → Follows b (fitAs Order s) (lentAfter Order s b i)
+  unfolding fitAs lentAfter lineAfter noCopies bookJudged
+  order-follows fit e =
+      let p = fit-passed Order s b i e in
+      let q = order-fits b i (findLine b (lineKey Order s)) (p .1) in
+      let ne = eqb-false (copiesIn Order s) 0 (p .0) in
+      let d = q .1 .1 in
+      rw d (order-entered b (lineKey Order s) (copiesIn Order s) k (order-key s n fit) (omega arith) (order-copies s n fit) (q .0) (q .1 .0))
+
+  goods-follows : Fitting Goods s n → fitJudged Goods s b ≡ Fits i → Follows b (fitAs Goods s) (lentAfter Goods s b i)
+  unfolding fitAs lentAfter lineAfter bookJudged usedSlips
+  goods-follows fit e =
+      let p = fit-passed Goods s b i e in
+      let q = delivery-fits b i (lineKey Goods s) (copiesIn Goods s) (findSlip b (slipKey s)) (p .1) in
+      goods-entered b (lineKey Goods s) (slipKey s) (copiesIn Goods s) i k (slip-key-width s n fit) (goods-copies s n fit) (q .0) (q .1 .0) (q .1 .1 .0) (q .1 .1 .1)
+
+  report-follows : fitJudged Report s b ≡ Fits i → Follows b (fitAs Report s) (lentAfter Report s b i)
+  unfolding fitAs lentAfter lineAfter bookJudged
+  report-follows e =
+      let p = fit-passed Report s b i e in
+      report-entered b (lineKey Report s) (markIn s) (holdOf (markIn s)) i k (report-mark s) (report-fits b i (findLine b (lineKey Report s)) (p .1))
+
+  -- a record of any kind; a closing record never fits
+  kind-follows : (j : Kind) → Fitting j s n → fitJudged j s b ≡ Fits i → Follows b (fitAs j s) (lentAfter j s b i)
+  kind-follows Order fit e = order-follows fit e
+  kind-follows Goods fit e = goods-follows fit e
+  kind-follows Closing fit e = closing-never (fit-passed Closing s b i e .1)
+    where
+      closing-never : bookJudged Closing s b ≡ Fits i → Follows b (fitAs Closing s) (lentAfter Closing s b i)
+      closing-never e = unfold bookJudged in let z : _≡_ {A = ℕ} 0 1 = cc in absurd (omega arith)
+  kind-follows Report fit e = report-follows e
+
+-- a record that is accepted
+pub follows : (s : List ℕ) (b : Lent) → Kept b → (a : Accepts s b) → Follows b (fitOf s) (book s b .lent)
+unfolding fitOf fitKind
+follows s b k a =
+    rw (a .known, a .lent) (kind-follows s b (a .place) (a .fields) k (a .kind) (fitting (a .kind) s (a .fields) (a .known) (a .read)) (a .fits))

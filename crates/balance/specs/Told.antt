@@ -1,0 +1,65 @@
+-- The book that lent bytes tell, as a list of lines and a list of slips (`ledger`), and the record that bytes are fit to book as.
+use Prim.Native.Nat.{ℕ, zero, suc}
+use mathlib.Core.Option.{Option, none, some}
+use mathlib.Core.List.{List, [], _∷_, _++_}
+use lib.Dec.{eqb}
+use Rattle.cells.specs.Bytes.{pick}
+use Rattle.record.specs.Layout.{kindOf}
+use Rattle.record.specs.declared.layout.Kind.{Kind}
+use Rattle.record.specs.declared.layout.Kind.the-variants.{Order as order, Goods as goods, Closing as closing, Report as report}
+use Rattle.record.specs.declared.layout.Kinded.{Kinded}
+use Rattle.record.specs.declared.layout.Kinded.the-variants.{Known, Unknown}
+use Rattle.entry.specs.Stored.{lineAt, keyAt, slipKeyAt, slipLineAt, slipCopiesAt}
+use Rattle.entry.specs.declared.line.Mark.{Mark}
+use Rattle.entry.specs.declared.line.Mark.the-variants.{Unmarked, Held, Dropped}
+use Rattle.ledger.specs.Book.{Hold, J, N, Report, Line, Slip, Book, Rooms}
+use Rattle.ledger.specs.Booking.{Fit, order as ordering, goods as arriving, report as telling}
+use Rattle.book.specs.Lent.{Lent, usedLines, usedSlips, lineRoom, slipRoom}
+use Rattle.book.specs.Booking.{lineKey, slipKey, copiesIn, markIn}
+
+-- what stands at the n places from i on
+unfoldable pub listed : {A : Type 0} → (ℕ → A) → ℕ → ℕ → List A
+listed f zero i = []
+listed f (suc n) i = f i ∷ listed f n (suc i)
+
+-- a mark as the last report
+unfoldable pub reportOf : Mark → Option Report
+reportOf Unmarked = none
+reportOf Held = some (record { hold = J })
+reportOf Dropped = some (record { hold = N })
+
+unfoldable pub lineTold : List ℕ → ℕ → Line
+lineTold lines i =
+    record { key = keyAt lines i; asked = record { copies = lineAt lines i .ordered }; arrived = lineAt lines i .arrived; last = reportOf (lineAt lines i .mark) }
+
+-- a stored slip has its line's index; here it names its line by key
+unfoldable pub slipTold : List ℕ → List ℕ → ℕ → Slip
+slipTold lines slips j =
+    record { line = keyAt lines (slipLineAt slips j); says = record { slip = slipKeyAt slips j; copies = slipCopiesAt slips j } }
+
+unfoldable pub told : Lent → Book
+told b =
+    record { lines = listed (lineTold (b .lines)) (usedLines b) 0; slips = listed (slipTold (b .lines) (b .slips)) (usedSlips b) 0 }
+
+-- the rooms that are lent
+unfoldable pub roomsOf : Lent → Rooms
+roomsOf b = record { forLines = lineRoom b; forSlips = slipRoom b }
+
+unfoldable pub holdOf : Mark → Hold
+holdOf Unmarked = J
+holdOf Held = J
+holdOf Dropped = N
+
+-- the record that bytes of a kind are fit to book as; a closing record never is
+unfoldable pub fitAs : Kind → List ℕ → Fit
+fitAs order s = ordering (lineKey order s) (record { copies = copiesIn order s })
+fitAs goods s = arriving (lineKey goods s) (record { slip = slipKey s; copies = copiesIn goods s })
+fitAs closing s = telling [] (record { hold = J })
+fitAs report s = telling (lineKey report s) (record { hold = holdOf (markIn s) })
+
+unfoldable pub fitKind : Kinded → List ℕ → Fit
+fitKind Unknown s = fitAs closing s
+fitKind (Known k) s = fitAs k s
+
+unfoldable pub fitOf : List ℕ → Fit
+fitOf s = fitKind (kindOf s) s

@@ -1,0 +1,231 @@
+-- Document 01, "Book": 20, 1 to 10, 13, 11, 12; then order 14, 15; delivery 17 or 18, 16, 21, 19; report 16.
+use Prim.Native.Nat.{ℕ, _+_}
+use mathlib.Core.Bool.{Bool, true, false, _&&_, _||_}
+use mathlib.Core.List.{List, [], _∷_, _++_}
+use lib.Dec.{eqb, leb, ltb}
+use lib.ListN.{length, getD, set}
+use Rattle.cells.specs.Bytes.{pick, bytes, same}
+use Rattle.rules.specs.Class.{allOf}
+use Rattle.rules.specs.Number.{number}
+use Rattle.rules.specs.declared.class.Class.the-variants.{Blank}
+use Rattle.record.specs.Layout.{kindOf}
+use Rattle.record.specs.Answers.{refusalNumber, refusalPlace}
+use Rattle.record.specs.Values.{fieldBytes}
+use Rattle.record.specs.Read.{judged}
+use Rattle.record.specs.declared.answer.Verdict.{Verdict as Reading}
+use Rattle.record.specs.declared.answer.Verdict.the-variants.{Refused as ReadRefused, Fits as ReadFits}
+use Rattle.record.specs.declared.layout.Kind.{Kind}
+use Rattle.record.specs.declared.layout.Kind.the-variants.{Order, Goods, Closing, Report}
+use Rattle.record.specs.declared.layout.Kinded.{Kinded}
+use Rattle.record.specs.declared.layout.Kinded.the-variants.{Known, Unknown}
+use Rattle.entry.specs.Line.{withMark, withArrivals, figuresOf}
+use Rattle.entry.specs.Stored.{mostArrived, lineAt, putLine, addLine, keyIs, slipLineAt, slipCopiesAt, addSlip}
+use Rattle.entry.specs.declared.line.Mark.{Mark}
+use Rattle.entry.specs.declared.line.Mark.the-variants.{Unmarked, Held, Dropped}
+use Rattle.entry.specs.declared.line.Line.{Line}
+use Rattle.entry.specs.declared.line.Figures.{Figures}
+use Rattle.book.specs.Lent.{Lent, usedLines, usedSlips, lineRoom, slipRoom, sound, findLine, findSlip}
+use Rattle.book.specs.declared.seek.Found.{Found}
+use Rattle.book.specs.declared.seek.Found.the-variants.{At, Nothing}
+use Rattle.book.specs.declared.answer.Refused.{Refused}
+use Rattle.book.specs.declared.answer.Refused.the-variants.{Unsound, Unread, NothingToBook, NoCopies, NoReference, LineExists, LinesUsed, NoLine, SlipBooked, SlipDiffers, SlipsUsed, TooManyArrived}
+use Rattle.book.specs.declared.answer.Verdict.{Verdict}
+use Rattle.book.specs.declared.answer.Verdict.the-variants.{Refuse, Fits}
+use Rattle.book.specs.declared.answer.Booked.{Booked}
+
+-- the answer number of each refusal
+unfoldable pub refusedNumber : Refused → ℕ
+refusedNumber Unsound = 20
+refusedNumber (Unread r) = refusalNumber r
+refusedNumber NothingToBook = 13
+refusedNumber NoCopies = 11
+refusedNumber NoReference = 12
+refusedNumber LineExists = 14
+refusedNumber LinesUsed = 15
+refusedNumber NoLine = 16
+refusedNumber SlipBooked = 17
+refusedNumber SlipDiffers = 18
+refusedNumber SlipsUsed = 19
+refusedNumber TooManyArrived = 21
+
+-- from 11 on the place is 0
+unfoldable pub refusedPlace : Refused → ℕ
+refusedPlace (Unread r) = refusalPlace r
+refusedPlace Unsound = 0
+refusedPlace NothingToBook = 0
+refusedPlace NoCopies = 0
+refusedPlace NoReference = 0
+refusedPlace LineExists = 0
+refusedPlace LinesUsed = 0
+refusedPlace NoLine = 0
+refusedPlace SlipBooked = 0
+refusedPlace SlipDiffers = 0
+refusedPlace SlipsUsed = 0
+refusedPlace TooManyArrived = 0
+
+-- the fields of a record with these indexes, one after the other
+unfoldable pub fieldsAt : Kind → List ℕ → List ℕ → List ℕ
+fieldsAt k [] s = []
+fieldsAt k (i ∷ is) s = fieldBytes k i s ++ fieldsAt k is s
+
+-- a line's key is school address and qualifier, supplier address and qualifier, reference, article and qualifier; in B101 the school is the sender, in L101 and M101 the recipient
+unfoldable pub keyFields : Kind → List ℕ
+keyFields Order = 1 ∷ 2 ∷ 3 ∷ 4 ∷ 6 ∷ 7 ∷ 8 ∷ []
+keyFields Goods = 3 ∷ 4 ∷ 1 ∷ 2 ∷ 8 ∷ 9 ∷ 10 ∷ []
+keyFields Closing = []
+keyFields Report = 3 ∷ 4 ∷ 1 ∷ 2 ∷ 6 ∷ 7 ∷ 8 ∷ []
+
+unfoldable pub lineKey : Kind → List ℕ → List ℕ
+lineKey k s = fieldsAt k (keyFields k) s
+
+-- a slip's key is supplier and school with qualifiers, date, slip number, position
+unfoldable pub slipKey : List ℕ → List ℕ
+slipKey s = fieldsAt Goods (1 ∷ 2 ∷ 3 ∷ 4 ∷ 5 ∷ 6 ∷ 7 ∷ []) s
+
+-- the quantity of an order or a delivery
+unfoldable pub copiesIn : Kind → List ℕ → ℕ
+copiesIn Order s = number (fieldBytes Order 9 s)
+copiesIn Goods s = number (fieldBytes Goods 11 s)
+copiesIn Closing s = 0
+copiesIn Report s = 0
+
+-- 13: a closing record, or a goods record with a blank slip number
+unfoldable pub nothingToBook : Kind → List ℕ → Bool
+nothingToBook Order s = false
+nothingToBook Goods s = allOf Blank (fieldBytes Goods 6 s)
+nothingToBook Closing s = true
+nothingToBook Report s = false
+
+-- 11: quantity 0, order or goods
+unfoldable pub noCopies : Kind → List ℕ → Bool
+noCopies Order s = eqb (copiesIn Order s) 0
+noCopies Goods s = eqb (copiesIn Goods s) 0
+noCopies Closing s = false
+noCopies Report s = false
+
+-- 12: reference blank
+unfoldable pub noReference : Kind → List ℕ → Bool
+noReference Order s = allOf Blank (fieldBytes Order 6 s)
+noReference Goods s = allOf Blank (fieldBytes Goods 8 s)
+noReference Closing s = false
+noReference Report s = allOf Blank (fieldBytes Report 6 s)
+
+-- the mark that a report sets: its field 11 only
+unfoldable pub markIn : List ℕ → Mark
+markIn s = pick (same (fieldBytes Report 10 s) (bytes "J")) Held Dropped
+
+-- 14, 15
+unfoldable pub orderJudged : Lent → Found → Verdict
+orderJudged b (At i) = Refuse LineExists
+orderJudged b Nothing = pick (ltb (usedLines b) (lineRoom b)) (Fits (usedLines b)) (Refuse LinesUsed)
+
+-- 17 or 18: the slip key is booked at j, with the same line key and quantity or with another
+unfoldable pub slipJudged : Lent → List ℕ → ℕ → ℕ → Verdict
+slipJudged b key copies j =
+    pick (keyIs (b .lines) key (slipLineAt (b .slips) j) && eqb (slipCopiesAt (b .slips) j) copies) (Refuse SlipBooked) (Refuse SlipDiffers)
+
+-- 21, 19 where the line stands at i
+unfoldable pub arrivalJudged : Lent → ℕ → ℕ → Verdict
+arrivalJudged b copies i =
+    pick (leb (lineAt (b .lines) i .arrived + copies) mostArrived)
+    (pick (ltb (usedSlips b) (slipRoom b)) (Fits i) (Refuse SlipsUsed))
+    (Refuse TooManyArrived)
+
+-- 16, then 21 and 19
+unfoldable pub goodsJudged : Lent → ℕ → Found → Verdict
+goodsJudged b copies Nothing = Refuse NoLine
+goodsJudged b copies (At i) = arrivalJudged b copies i
+
+-- 17 or 18, then the rest
+unfoldable pub deliveryJudged : Lent → List ℕ → ℕ → Found → Verdict
+deliveryJudged b key copies (At j) = slipJudged b key copies j
+deliveryJudged b key copies Nothing = goodsJudged b copies (findLine b key)
+
+-- 16
+unfoldable pub reportJudged : Found → Verdict
+reportJudged Nothing = Refuse NoLine
+reportJudged (At i) = Fits i
+
+-- what the book says of a record that is fit to book
+unfoldable pub bookJudged : Kind → List ℕ → Lent → Verdict
+bookJudged Order s b = orderJudged b (findLine b (lineKey Order s))
+bookJudged Goods s b = deliveryJudged b (lineKey Goods s) (copiesIn Goods s) (findSlip b (slipKey s))
+bookJudged Closing s b = Refuse NothingToBook
+bookJudged Report s b = reportJudged (findLine b (lineKey Report s))
+
+-- 13, 11, 12, then the book, of a record of a kind that is read
+unfoldable pub fitJudged : Kind → List ℕ → Lent → Verdict
+fitJudged k s b =
+    pick (nothingToBook k s) (Refuse NothingToBook)
+    (pick (noCopies k s) (Refuse NoCopies)
+    (pick (noReference k s) (Refuse NoReference)
+    (bookJudged k s b)))
+
+-- a new line: nothing has arrived, no mark
+unfoldable pub newLine : ℕ → Line
+newLine copies = record { ordered = copies; arrived = 0; mark = Unmarked }
+
+-- the line that a record of a kind makes of the line at i
+unfoldable pub lineAfter : Kind → List ℕ → Lent → ℕ → Line
+lineAfter Order s b i = newLine (copiesIn Order s)
+lineAfter Goods s b i = withArrivals (copiesIn Goods s) (lineAt (b .lines) i)
+lineAfter Closing s b i = lineAt (b .lines) i
+lineAfter Report s b i = withMark (markIn s) (lineAt (b .lines) i)
+
+-- success changes only the line, slip and used counts named
+unfoldable pub lentAfter : Kind → List ℕ → Lent → ℕ → Lent
+lentAfter Order s b i =
+    record { lines = addLine (b .lines) i (lineKey Order s) (lineAfter Order s b i); slips = b .slips; used = set (b .used) 0 (usedLines b + 1) }
+lentAfter Goods s b i =
+    record {
+      lines = putLine (b .lines) i (lineAfter Goods s b i);
+      slips = addSlip (b .slips) (usedSlips b) (slipKey s) i (copiesIn Goods s);
+      used = set (b .used) 1 (usedSlips b + 1);
+    }
+lentAfter Closing s b i = b
+lentAfter Report s b i = record { lines = putLine (b .lines) i (lineAfter Report s b i); slips = b .slips; used = b .used }
+
+-- what booking says, and the lent book afterwards
+pub record Outcome : Type 0 where
+  pub said : Booked
+  pub lent : Lent
+
+abbrev pub outcome : Booked → Lent → Outcome
+outcome said b = record { said = said; lent = b }
+
+abbrev pub noFigures : Figures
+noFigures = record { ordered = 0; filled = 0; «still_open» = 0; «let_go» = 0; extra = 0 }
+
+-- a refusal gives its number and place, zeros for all other values
+unfoldable pub refusedAs : Refused → Booked
+refusedAs r = record { answer = refusedNumber r; place = refusedPlace r; figures = noFigures }
+
+-- done, with the figures of the line
+unfoldable pub doneAs : Line → Booked
+doneAs l = record { answer = 0; place = 0; figures = figuresOf l }
+
+-- a record of a kind entered at the line with an index
+unfoldable pub enteredAs : Kind → List ℕ → Lent → ℕ → Outcome
+enteredAs k s b i = outcome (doneAs (lineAfter k s b i)) (lentAfter k s b i)
+
+-- a refusal changes nothing lent
+unfoldable pub settled : Kind → List ℕ → Lent → Verdict → Outcome
+settled k s b (Refuse r) = outcome (refusedAs r) b
+settled k s b (Fits i) = enteredAs k s b i
+
+-- a record of a kind that is read, booked into a sound book
+unfoldable pub bookAs : Kind → List ℕ → Lent → Outcome
+bookAs k s b = settled k s b (fitJudged k s b)
+
+unfoldable pub bookKind : Kinded → List ℕ → Lent → Outcome
+bookKind Unknown s b = outcome (refusedAs NothingToBook) b
+bookKind (Known k) s b = bookAs k s b
+
+-- 1 to 10 first
+unfoldable pub bookRead : Reading → List ℕ → Lent → Outcome
+bookRead (ReadRefused r) s b = outcome (refusedAs (Unread r)) b
+bookRead (ReadFits n) s b = bookKind (kindOf s) s b
+
+-- a record booked into a lent book: 20 before all
+unfoldable pub book : List ℕ → Lent → Outcome
+book s b = pick (sound b) (bookRead (judged s) s b) (outcome (refusedAs Unsound) b)

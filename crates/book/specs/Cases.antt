@@ -1,0 +1,143 @@
+-- Cases of booking on bytes: the desk's eight records, the whole table of cases marked P, and unsound books.
+use Prim.Native.Nat.{ℕ, suc, _*_}
+use Prim.Native.String.{String}
+use mathlib.Core.List.{List, [], _∷_, _++_}
+use lib.ListN.{replicate, take, drop, set}
+use lib.Seq.{sets}
+use Rattle.cells.specs.Bytes.{bytes}
+use Rattle.record.specs.Answers.{checkedOf}
+use Rattle.record.specs.Read.{judged}
+use Rattle.record.specs.Samples.{X, Y, Z, put, Call, reads, books}
+use Rattle.record.specs.Edges.{C}
+use Rattle.record.specs.declared.answer.Checked.{Checked}
+use Rattle.entry.specs.Stored.{lineWidth, slipWidth, keyWidth, markAt, arrivedAt, slipKeyWidth}
+use Rattle.entry.specs.declared.line.Figures.{Figures}
+use Rattle.book.specs.Lent.{Lent}
+use Rattle.book.specs.Booking.{Outcome, book}
+use Rattle.book.specs.declared.answer.Booked.{Booked}
+
+-- an empty book whose rooms held something else before
+abbrev pub roomy : ℕ → ℕ → Lent
+roomy lines slips = record { lines = replicate (lines * lineWidth) 7; slips = replicate (slips * slipWidth) 7; used = 0 ∷ 0 ∷ [] }
+
+-- what the desk prints of a record: answer, ordered, filled, open, let go, extra
+abbrev pub printed : Booked → List ℕ
+printed b =
+    b .answer ∷ b .figures .ordered ∷ b .figures .filled ∷ b .figures .«still_open» ∷ b .figures .«let_go» ∷ b .figures .extra ∷ []
+
+unfoldable pub desk : Lent → List (List ℕ) → List (List ℕ)
+desk b [] = []
+desk b (s ∷ ss) = printed (book s b .said) ∷ desk (book s b .lent) ss
+
+-- document 01's input: X; Y; Y; Z; Y with position 0002 and quantity 0003; Z with 015J; Y with 0003 and 0005; Y with quantity 0005
+unfoldable pub sample : List (List ℕ)
+sample =
+    X
+    ∷ Y
+    ∷ Y
+    ∷ Z
+    ∷ put 46 "0002" (put 75 "0003" Y)
+    ∷ put 63 "015J" Z
+    ∷ put 46 "0003" (put 75 "0005" Y)
+    ∷ put 75 "0005" Y
+    ∷ []
+
+unfoldable pub sampleSays : List (List ℕ)
+sampleSays =
+    (0 ∷ 10 ∷ 0 ∷ 10 ∷ 0 ∷ 0 ∷ [])
+    ∷ (0 ∷ 10 ∷ 4 ∷ 6 ∷ 0 ∷ 0 ∷ [])
+    ∷ (17 ∷ 0 ∷ 0 ∷ 0 ∷ 0 ∷ 0 ∷ [])
+    ∷ (0 ∷ 10 ∷ 4 ∷ 0 ∷ 6 ∷ 0 ∷ [])
+    ∷ (0 ∷ 10 ∷ 7 ∷ 0 ∷ 3 ∷ 0 ∷ [])
+    ∷ (0 ∷ 10 ∷ 7 ∷ 3 ∷ 0 ∷ 0 ∷ [])
+    ∷ (0 ∷ 10 ∷ 10 ∷ 0 ∷ 0 ∷ 2 ∷ [])
+    ∷ (18 ∷ 0 ∷ 0 ∷ 0 ∷ 0 ∷ 0 ∷ [])
+    ∷ []
+
+-- an advance notice, then the goods: only the goods are booked; another school with reference A-17; quantity 0; blank references; a closing record
+unfoldable pub others : List (List ℕ)
+others =
+    X
+    ∷ put 36 "          " Y
+    ∷ Y
+    ∷ put 4 "43211     " X
+    ∷ put 16 "43211     " Y
+    ∷ put 16 "43211     " (put 46 "0009" Y)
+    ∷ put 16 "43212     " (put 46 "0010" Y)
+    ∷ X
+    ∷ put 61 "0000" X
+    ∷ put 75 "0000" Y
+    ∷ put 36 "          " (put 75 "0000" Y)
+    ∷ put 36 "          " X
+    ∷ put 50 "          " Y
+    ∷ put 38 "          " Z
+    ∷ C
+    ∷ []
+
+unfoldable pub othersSay : List (List ℕ)
+othersSay =
+    (0 ∷ 10 ∷ 0 ∷ 10 ∷ 0 ∷ 0 ∷ [])
+    ∷ (13 ∷ 0 ∷ 0 ∷ 0 ∷ 0 ∷ 0 ∷ [])
+    ∷ (0 ∷ 10 ∷ 4 ∷ 6 ∷ 0 ∷ 0 ∷ [])
+    ∷ (0 ∷ 10 ∷ 0 ∷ 10 ∷ 0 ∷ 0 ∷ [])
+    ∷ (0 ∷ 10 ∷ 4 ∷ 6 ∷ 0 ∷ 0 ∷ [])
+    ∷ (0 ∷ 10 ∷ 8 ∷ 2 ∷ 0 ∷ 0 ∷ [])
+    ∷ (16 ∷ 0 ∷ 0 ∷ 0 ∷ 0 ∷ 0 ∷ [])
+    ∷ (14 ∷ 0 ∷ 0 ∷ 0 ∷ 0 ∷ 0 ∷ [])
+    ∷ (11 ∷ 0 ∷ 0 ∷ 0 ∷ 0 ∷ 0 ∷ [])
+    ∷ (11 ∷ 0 ∷ 0 ∷ 0 ∷ 0 ∷ 0 ∷ [])
+    ∷ (13 ∷ 0 ∷ 0 ∷ 0 ∷ 0 ∷ 0 ∷ [])
+    ∷ (12 ∷ 0 ∷ 0 ∷ 0 ∷ 0 ∷ 0 ∷ [])
+    ∷ (12 ∷ 0 ∷ 0 ∷ 0 ∷ 0 ∷ 0 ∷ [])
+    ∷ (12 ∷ 0 ∷ 0 ∷ 0 ∷ 0 ∷ 0 ∷ [])
+    ∷ (13 ∷ 0 ∷ 0 ∷ 0 ∷ 0 ∷ 0 ∷ [])
+    ∷ []
+
+-- what a call says of a record of the table of cases marked P
+abbrev pub says : Call → List ℕ → Checked
+says reads s = checkedOf (judged s)
+says books s = record { answer = book s (roomy 1 1) .said .answer; place = book s (roomy 1 1) .said .place; fields = 0 }
+
+-- the book after X and Y, and books with one thing broken
+abbrev pub two : Lent
+two = book Y (book X (roomy 2 2) .lent) .lent
+
+abbrev withLines : (List ℕ → List ℕ) → Lent
+withLines f = record { lines = f (two .lines); slips = two .slips; used = two .used }
+
+abbrev withSlips : (List ℕ → List ℕ) → Lent
+withSlips f = record { lines = two .lines; slips = f (two .slips); used = two .used }
+
+abbrev withUsed : List ℕ → Lent
+withUsed u = record { lines = two .lines; slips = two .slips; used = u }
+
+-- the answer of each to the report Z
+unfoldable pub unsound : List Lent
+unsound =
+    two
+    ∷ withLines (λ l. take 111 l)
+    ∷ withLines (λ l. [])
+    ∷ withLines (λ l. l ++ replicate (511 * lineWidth) 0)
+    ∷ withLines (λ l. l ++ replicate (510 * lineWidth) 0)
+    ∷ withSlips (λ l. take 99 l)
+    ∷ withSlips (λ l. [])
+    ∷ withUsed (3 ∷ 1 ∷ [])
+    ∷ withUsed (1 ∷ 3 ∷ [])
+    ∷ withUsed (0 ∷ 1 ∷ [])
+    ∷ withUsed (2 ∷ 1 ∷ [])  -- the second line's bytes are no line
+    ∷ withLines (λ l. sets l keyWidth (0 ∷ 0 ∷ []))
+    ∷ withLines (λ l. sets l keyWidth (15 ∷ 39 ∷ []))
+    ∷ withLines (λ l. sets l keyWidth (16 ∷ 39 ∷ []))
+    ∷ withLines (λ l. set l markAt 2)
+    ∷ withLines (λ l. set l markAt 3)
+    ∷ withLines (λ l. sets l arrivedAt (127 ∷ 150 ∷ 152 ∷ 0 ∷ []))
+    ∷ withLines (λ l. sets l arrivedAt (128 ∷ 150 ∷ 152 ∷ 0 ∷ []))
+    ∷ withSlips (λ l. sets l slipKeyWidth (1 ∷ 0 ∷ []))
+    ∷ []
+
+unfoldable pub answersTo : List ℕ → List Lent → List ℕ
+answersTo s [] = []
+answersTo s (b ∷ bs) = book s b .said .answer ∷ answersTo s bs
+
+unfoldable pub unsoundSays : List ℕ
+unsoundSays = 0 ∷ 20 ∷ 20 ∷ 20 ∷ 0 ∷ 20 ∷ 20 ∷ 20 ∷ 20 ∷ 20 ∷ 20 ∷ 20 ∷ 0 ∷ 20 ∷ 0 ∷ 20 ∷ 0 ∷ 20 ∷ 20 ∷ []

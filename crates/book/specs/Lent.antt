@@ -1,0 +1,66 @@
+-- Document 01, "The book": the lent book, when it is sound, and its first entry with a key.
+use Prim.Native.Nat.{ℕ, zero, suc, _+_, _/_, _%_}
+use mathlib.Core.Bool.{Bool, true, _&&_}
+use mathlib.Core.List.{List, []}
+use lib.Dec.{eqb, leb}
+use lib.ListN.{length, getD}
+use Rattle.cells.specs.Bytes.{pick, within}
+use Rattle.entry.specs.Stored.{lineWidth, slipWidth, keyIs, slipIs, lineSound, slipSound}
+use Rattle.book.specs.declared.seek.Found.{Found}
+use Rattle.book.specs.declared.seek.Found.the-variants.{At, Nothing}
+
+-- what the caller lends: room for lines, room for slips, and how many of each are used
+pub record Lent : Type 0 where
+  pub lines : List ℕ
+  pub slips : List ℕ
+  pub used : List ℕ
+
+abbrev pub lent : List ℕ → List ℕ → List ℕ → Lent
+lent lines slips used = record { lines = lines; slips = slips; used = used }
+
+unfoldable pub usedLines : Lent → ℕ
+usedLines b = getD (b .used) 0 0
+
+unfoldable pub usedSlips : Lent → ℕ
+usedSlips b = getD (b .used) 1 0
+
+-- the caller lends room for 1 to 512 lines and 1 to 1,024 slips
+abbrev pub mostLines : ℕ
+mostLines = 512
+
+abbrev pub mostSlips : ℕ
+mostSlips = 1024
+
+unfoldable pub lineRoom : Lent → ℕ
+lineRoom b = length (b .lines) / lineWidth
+
+unfoldable pub slipRoom : Lent → ℕ
+slipRoom b = length (b .slips) / slipWidth
+
+-- so many bytes are room for 1 to most entries of a width, and nothing more
+unfoldable pub roomSound : ℕ → ℕ → ℕ → Bool
+roomSound width most n = eqb (n % width) 0 && within 1 most (n / width)
+
+-- the first of the n places from i on at which a test holds
+unfoldable pub firstFrom : (ℕ → Bool) → ℕ → ℕ → Found
+firstFrom p zero i = Nothing
+firstFrom p (suc n) i = pick (p i) (At i) (firstFrom p n (suc i))
+
+-- a test holds at each of the n places from i on
+unfoldable pub allFrom : (ℕ → Bool) → ℕ → ℕ → Bool
+allFrom p zero i = true
+allFrom p (suc n) i = p i && allFrom p n (suc i)
+
+-- a book is sound if used counts are within the room, each slip names a used line, Q is 1 to 9,999, A at most 9,999,999, the mark one of the three
+unfoldable pub sound : Lent → Bool
+sound b =
+    (roomSound lineWidth mostLines (length (b .lines)) && roomSound slipWidth mostSlips (length (b .slips)))
+    && ((leb (usedLines b) (lineRoom b) && leb (usedSlips b) (slipRoom b))
+    && (allFrom (lineSound (b .lines)) (usedLines b) 0 && allFrom (slipSound (usedLines b) (b .slips)) (usedSlips b) 0))
+
+-- where keys repeat, the first entry counts
+unfoldable pub findLine : Lent → List ℕ → Found
+findLine b key = firstFrom (keyIs (b .lines) key) (usedLines b) 0
+
+unfoldable pub findSlip : Lent → List ℕ → Found
+findSlip b key = firstFrom (slipIs (b .slips) key) (usedSlips b) 0

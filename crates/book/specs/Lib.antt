@@ -1,0 +1,4 @@
+pub mod Lent
+pub mod Booking
+pub mod Asked
+pub mod Cases

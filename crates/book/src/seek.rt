@@ -1,0 +1,110 @@
+// Searches and tests over the used entries of a lent book.
+ghost use mathlib.Core.Path.{_≡_};
+ghost use Prim.Native.Nat.{_*_, _≤_, _<_};
+ghost use lib.ListN.{length};
+ghost use Rattle.entry.specs.Stored.{lineWidth, slipWidth, keyIs, slipIs, lineSound, slipSound};
+ghost use Rattle.book.specs.Lent.{lent, roomSound, firstFrom, allFrom, sound};
+use entry::stored::LINE_WIDTH;
+use entry::stored::SLIP_WIDTH;
+use entry::stored::is_line_sound;
+use entry::stored::key_is;
+use entry::stored::slip_is;
+use entry::stored::slip_line;
+
+pub const MOST_LINES: usize = 512;
+
+pub const MOST_SLIPS: usize = 1024;
+
+// The place of an entry, or nothing.
+pub enum Found {
+    At(usize),
+    Nothing,
+}
+
+// The first of the used lines with a key.
+pub fn find_line(lines: &[u8], count: usize, key: &[u8]) -> Found
+    requires { ⌜ lineWidth * count ≤ length (now lines) ⌝ }
+    ensures { λ r. ⌜ r ≡ firstFrom (keyIs (now (lines .entry)) (now (key .entry))) count 0 ⌝ }
+{
+    let mut i: usize = 0;
+    while i < count {
+        if key_is(lines, i, key) {
+            return Found::At(i);
+        }
+        i += 1;
+    }
+    Found::Nothing
+}
+
+// The first of the used slips with a key.
+pub fn find_slip(slips: &[u8], count: usize, key: &[u8]) -> Found
+    requires { ⌜ slipWidth * count ≤ length (now slips) ⌝ }
+    ensures { λ r. ⌜ r ≡ firstFrom (slipIs (now (slips .entry)) (now (key .entry))) count 0 ⌝ }
+{
+    let mut j: usize = 0;
+    while j < count {
+        if slip_is(slips, j, key) {
+            return Found::At(j);
+        }
+        j += 1;
+    }
+    Found::Nothing
+}
+
+fn are_lines_sound(lines: &[u8], count: usize) -> bool
+    requires { ⌜ lineWidth * count ≤ length (now lines) ⌝ }
+    ensures { λ r. ⌜ r ≡ allFrom (lineSound (now (lines .entry))) count 0 ⌝ }
+{
+    let mut i: usize = 0;
+    while i < count {
+        if !is_line_sound(lines, i) {
+            return false;
+        }
+        i += 1;
+    }
+    true
+}
+
+fn are_slips_sound(slips: &[u8], count: usize, lines: usize) -> bool
+    requires { ⌜ slipWidth * count ≤ length (now slips) ⌝ }
+    ensures { λ r. ⌜ r ≡ allFrom (slipSound lines (now (slips .entry))) count 0 ⌝ }
+{
+    let mut j: usize = 0;
+    while j < count {
+        if lines <= slip_line(slips, j) {
+            return false;
+        }
+        j += 1;
+    }
+    true
+}
+
+// Whether so many bytes are room for 1 to `most` entries of a width, and nothing more.
+pub fn is_room(width: usize, most: usize, n: usize) -> bool
+    requires { ⌜ 0 < width ⌝ }
+    ensures { λ r. ⌜ r ≡ roomSound width most n ⌝ }
+{
+    (n % width == 0) & ((1 <= n / width) & (n / width <= most))
+}
+
+// Whether a lent book is sound.
+pub fn is_sound(lines: &[u8], slips: &[u8], used: &[usize; 2]) -> bool
+    ensures { λ r. ⌜ r ≡ sound (lent (now (lines .entry)) (now (slips .entry)) (now (used .entry))) ⌝ }
+{
+    if !(is_room(LINE_WIDTH, MOST_LINES, lines.len())
+        & is_room(SLIP_WIDTH, MOST_SLIPS, slips.len())) {
+        return false;
+    }
+    let used_lines = used[0];
+    let used_slips = used[1];
+    if lines.len() / LINE_WIDTH < used_lines {
+        return false;
+    }
+    if slips.len() / SLIP_WIDTH < used_slips {
+        return false;
+    }
+    if !are_lines_sound(lines, used_lines) {
+        return false;
+    }
+    are_slips_sound(slips, used_slips, used_lines)
+}

@@ -1,0 +1,78 @@
+-- `booking::enter::enter_goods` meets its contract.
+use native.Mathlib.Omega.{arith}
+use Rattle.rules.proofs.Parts.{part-most}
+use Rattle.book.proofs.Stages.{goods-copies}
+use Rattle.booking.proofs.Entered.{slip-key-width, goods-entered}
+use borrow.Author.Needs.{needs}
+use Rattle.booking.proofs.enter.enter_goods.Statement.{statement}
+use Rattle.booking.proofs.enter.enter_goods.Tie as tie
+
+part-requires : tie.Need-part-requires
+part-requires c κs = search needs
+
+number-of-requires : tie.Need-number-of-requires
+number-of-requires c κs = rw (c .part .ensures) (omega (arith, part-most 75 79 (c .before .before .before .before .args .s .now)))
+
+read-line-requires : tie.Need-read-line-requires
+read-line-requires c κs = search needs
+
+with-arrivals-requires : tie.Need-with-arrivals-requires
+with-arrivals-requires c κs =
+    let number = c .before .before in
+    let copies = goods-copies (c .before .before .before .before .before .before .before .args .s .now) (number .number-of .ensures) (number .before .part .ensures) in
+    rw (c .read-line .ensures, copies) (omega (arith, c .before .before .before .before .before .before .before .pre .4))
+
+write-line-requires : tie.Need-write-line-requires
+write-line-requires c κs = search needs
+
+element-copy-out-j : tie.Need-element-copy-out-j
+element-copy-out-j c = search needs
+
+slip-key-requires : tie.Need-slip-key-requires
+slip-key-requires c κs = search needs
+
+write-slip-requires : tie.Need-write-slip-requires
+write-slip-requires c κs = (rw (c .slip-key .ensures) (slip-key-width _ (c .before .before .before .before .before .before .before .before .before .before .before .before .before .before .before .pre .0)), c .before .before .before .before .before .before .before .before .before .before .before .before .before .before .before .pre .2)
+
+add-used : tie.Need-add-used
+add-used c = search needs
+
+element-write-used : tie.Need-element-write-used
+element-write-used c = search needs
+
+done-requires : tie.Need-done-requires
+done-requires c κs = search needs
+
+same-length : tie.Need-same-length
+same-length c = search needs
+
+same-length-2 : tie.Need-same-length-2
+same-length-2 c = search needs
+
+returns : tie.Need-returns
+returns c =
+    let slip = c .before .before .before in
+    let write = slip .before .before .before .before .before .before in
+    let line = write .before .before in
+    let number = line .before .before .before in
+    let copies = goods-copies _ (number .number-of .ensures) (number .before .part .ensures) in
+    rw (c .done .ensures, slip .write-slip .ensures, slip .before .slip-key .ensures, write .write-line .ensures, line .with-arrivals .ensures, line .before .read-line .ensures, copies) (goods-entered _ _ _ _ _)
+
+pub enter-goods-spec : {M : Type 1} → statement M
+enter-goods-spec =
+    tie.close
+    (tie.spec
+    part-requires
+    number-of-requires
+    read-line-requires
+    with-arrivals-requires
+    write-line-requires
+    element-copy-out-j
+    slip-key-requires
+    write-slip-requires
+    add-used
+    element-write-used
+    done-requires
+    same-length
+    same-length-2
+    returns)

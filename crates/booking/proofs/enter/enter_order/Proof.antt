@@ -1,0 +1,66 @@
+-- `booking::enter::enter_order` meets its contract.
+use native.Mathlib.Omega.{arith}
+use Rattle.rules.proofs.Parts.{part-most}
+use Rattle.book.proofs.Stages.{order-copies}
+use Rattle.booking.proofs.Entered.{order-entered}
+use borrow.Author.Needs.{needs}
+use Rattle.booking.proofs.enter.enter_order.Statement.{statement}
+use Rattle.booking.proofs.enter.enter_order.Tie as tie
+
+part-requires : tie.Need-part-requires
+part-requires c κs = search needs
+
+number-of-requires : tie.Need-number-of-requires
+number-of-requires c κs = rw (c .part .ensures) (omega (arith, part-most 61 65 (c .before .before .before .before .args .s .now)))
+
+new-line-requires : tie.Need-new-line-requires
+new-line-requires c κs = search needs
+
+order-key-requires : tie.Need-order-key-requires
+order-key-requires c κs = search needs
+
+slice-aggregate-write-new-line : tie.Need-slice-aggregate-write-new-line
+slice-aggregate-write-new-line c = search needs
+
+write-new-line-requires : tie.Need-write-new-line-requires
+write-new-line-requires c κs = search needs
+
+element-copy-out-used : tie.Need-element-copy-out-used
+element-copy-out-used c = search needs
+
+add-used : tie.Need-add-used
+add-used c = search needs
+
+element-write-used : tie.Need-element-write-used
+element-write-used c = search needs
+
+done-requires : tie.Need-done-requires
+done-requires c κs = search needs
+
+same-length : tie.Need-same-length
+same-length c = search needs
+
+returns : tie.Need-returns
+returns c =
+    let write = c .before .before .before .before in
+    let key = write .before .before .before in
+    let number = key .before .before in
+    let copies = order-copies _ (number .number-of .ensures) (number .before .part .ensures) in
+    rw (c .done .ensures, write .write-new-line .ensures, key .order-key .ensures, key .before .new-line .ensures, copies) (order-entered _ _ _ _ _)
+
+pub enter-order-spec : {M : Type 1} → statement M
+enter-order-spec =
+    tie.close
+    (tie.spec
+    part-requires
+    number-of-requires
+    new-line-requires
+    order-key-requires
+    slice-aggregate-write-new-line
+    write-new-line-requires
+    element-copy-out-used
+    add-used
+    element-write-used
+    done-requires
+    same-length
+    returns)

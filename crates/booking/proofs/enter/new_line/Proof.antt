@@ -1,0 +1,12 @@
+-- `booking::enter::new_line` meets its contract.
+use mathlib.Core.Path.{refl}
+use Rattle.book.specs.Booking.{newLine}
+use Rattle.booking.proofs.enter.new_line.Statement.{statement}
+use Rattle.booking.proofs.enter.new_line.Tie as tie
+
+returns : tie.Need-returns
+unfolding newLine
+returns c = refl
+
+pub new-line-spec : {M : Type 1} → statement M
+new-line-spec = tie.close (tie.spec returns)

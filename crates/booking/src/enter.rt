@@ -1,0 +1,104 @@
+// A record entered, once the book has said where it fits: straight-line code.
+ghost use mathlib.Core.Path.{_≡_};
+ghost use Prim.Native.Nat.{_+_, _*_, _≤_, _<_};
+ghost use lib.ListN.{length, getD};
+ghost use Rattle.record.specs.Layout.{fixedWidth};
+ghost use Rattle.entry.specs.Stored.{lineWidth, slipWidth, lineAt};
+ghost use Rattle.book.specs.Lent.{lent};
+ghost use Rattle.book.specs.Booking.{copiesIn, newLine, markIn, outcome, enteredAs};
+use book::answer::Booked;
+use book::answer::done;
+use book::keys::order_key;
+use book::keys::slip_key;
+use cells::part;
+use entry::line::Line;
+use entry::line::Mark;
+use entry::stored::read_line;
+use entry::stored::write_line;
+use entry::stored::write_new_line;
+use entry::stored::write_slip;
+use record::layout::Kind;
+use rules::number::number_of;
+
+// Where the fields that are entered start, and end.
+const ORDER_QUANTITY: usize = 61;
+
+const ORDER_MEASURE: usize = 65;
+
+const QUANTITY: usize = 75;
+
+const PRICE: usize = 79;
+
+const HOLD: usize = 66;
+
+const LETTER_J: u8 = 74;
+
+// A new line: nothing has arrived, no mark.
+fn new_line(copies: u64) -> Line
+    ensures { λ r. ⌜ r ≡ newLine copies ⌝ }
+{
+    Line {
+        ordered: copies,
+        arrived: 0,
+        mark: Mark::Unmarked,
+    }
+}
+
+// The mark that a report sets.
+fn mark_in(s: &[u8]) -> Mark
+    requires { ⌜ fixedWidth Kind.Report ≤ length (now s) ⌝ }
+    ensures { λ r. ⌜ r ≡ markIn (now (s .entry)) ⌝ }
+{
+    if s[HOLD] == LETTER_J {
+        return Mark::Held;
+    }
+    Mark::Dropped
+}
+
+// An accepted order adds a line.
+pub fn enter_order(
+    s: &[u8],
+    lines: &mut [u8],
+    slips: &[u8],
+    used: &mut [usize; 2],
+    i: usize,
+) -> Booked
+    requires { ⌜ (fixedWidth Kind.Order ≤ length (now s)) × (lineWidth * i + lineWidth ≤ length (now lines)) × (getD (now used) 0 0 < 512) ⌝ }
+    ensures { λ r. ⌜ outcome r (lent (now (lines .exit)) (now (slips .entry)) (now (used .exit))) ≡ enteredAs Kind.Order (now (s .entry)) (lent (now (lines .entry)) (now (slips .entry)) (now (used .entry))) i ⌝ }
+{
+    let l = new_line(number_of(part(s, ORDER_QUANTITY, ORDER_MEASURE)));
+    let key = order_key(s);
+    write_new_line(lines, i, &key, l);
+    used[0] = used[0] + 1;
+    done(l)
+}
+
+// An accepted delivery adds a slip, and its copies to its line.
+pub fn enter_goods(
+    s: &[u8],
+    lines: &mut [u8],
+    slips: &mut [u8],
+    used: &mut [usize; 2],
+    i: usize,
+) -> Booked
+    requires { ⌜ (fixedWidth Kind.Goods ≤ length (now s)) × (lineWidth * i + lineWidth ≤ length (now lines)) × (slipWidth * getD (now used) 1 0 + slipWidth ≤ length (now slips)) × (getD (now used) 1 0 < 1024) × (lineAt (now lines) i .arrived + copiesIn Kind.Goods (now s) ≤ 9999999) ⌝ }
+    ensures { λ r. ⌜ outcome r (lent (now (lines .exit)) (now (slips .exit)) (now (used .exit))) ≡ enteredAs Kind.Goods (now (s .entry)) (lent (now (lines .entry)) (now (slips .entry)) (now (used .entry))) i ⌝ }
+{
+    let copies = number_of(part(s, QUANTITY, PRICE));
+    let l = read_line(lines, i).with_arrivals(copies);
+    write_line(lines, i, l);
+    let j = used[1];
+    write_slip(slips, j, slip_key(s), i, copies);
+    used[1] = j + 1;
+    done(l)
+}
+
+// An accepted report sets the mark.
+pub fn enter_report(s: &[u8], lines: &mut [u8], slips: &[u8], used: &[usize; 2], i: usize) -> Booked
+    requires { ⌜ (fixedWidth Kind.Report ≤ length (now s)) × (lineWidth * i + lineWidth ≤ length (now lines)) ⌝ }
+    ensures { λ r. ⌜ outcome r (lent (now (lines .exit)) (now (slips .entry)) (now (used .entry))) ≡ enteredAs Kind.Report (now (s .entry)) (lent (now (lines .entry)) (now (slips .entry)) (now (used .entry))) i ⌝ }
+{
+    let l = read_line(lines, i).with_mark(mark_in(s));
+    write_line(lines, i, l);
+    done(l)
+}

@@ -1,0 +1,33 @@
+-- The cases of booking hold of the definitions, by computation.
+use mathlib.Core.Path.{_≡_, refl}
+use Rattle.cells.specs.Bytes.{all, any, run, same, among}
+use Rattle.cells.specs.Little.{leAt, leBytes}
+use Rattle.rules.specs.Class.{belongs, allOf, ofClass, padded, named}
+use Rattle.rules.specs.Number.{numberFrom}
+use Rattle.rules.specs.Day.{leap, monthDays, realDay, dayOf, isDay}
+use Rattle.rules.specs.Article.{checkValue, weighted, gs1, isbn, seriesVolume, article}
+use Rattle.rules.specs.Rule.{texts, dayCount, expected, keeps}
+use Rattle.record.specs.Layout.{layout, total, fixedWidth, startOf, kindOf, firstBroken}
+use Rattle.record.specs.Contents.{contents, isIn, ruleIn, contentRule, guardedIds, guarded, contentKept, groups, firstOf, nextIn, previousIn, groupWith, nextMember, previousMember, isWanted, groupKept}
+use Rattle.record.specs.Answers.{refusalNumber, refusalPlace, checkedOf, _then_}
+use Rattle.record.specs.Fields.{headOf, idIn, idOf, contentWidth, contentOf, fieldWidth, afterField, onHead, atField, walk, judge}
+use Rattle.record.specs.Values.{fieldBytes}
+use Rattle.record.specs.Read.{bytesJudged, fixedJudged, afterWalk, optionalJudged, kindJudged, judged}
+use Rattle.record.specs.Samples.{X, Z, cases, firstWrong}
+use Rattle.entry.specs.Line.{markByte, withMark, withArrivals, openOf, letGoOf, filledOf, figuresOf}
+use Rattle.entry.specs.Stored.{lineAt, lineBytes, putLine, addLine, keyAt, keyIs, lineSound, slipKeyAt, slipIs, slipLineAt, slipCopiesAt, addSlip, slipSound}
+use Rattle.book.specs.Lent.{usedLines, usedSlips, lineRoom, slipRoom, roomSound, firstFrom, allFrom, sound, findLine, findSlip}
+use Rattle.book.specs.Booking.{refusedNumber, refusedPlace, fieldsAt, keyFields, lineKey, slipKey, copiesIn, nothingToBook, noCopies, noReference, markIn, orderJudged, slipJudged, arrivalJudged, goodsJudged, deliveryJudged, reportJudged, bookJudged, fitJudged, newLine, lineAfter, lentAfter, refusedAs, doneAs, enteredAs, settled, bookAs, bookKind, bookRead, book}
+use Rattle.book.specs.Cases.{roomy, desk, sample, sampleSays, others, othersSay, says, unsound, answersTo, unsoundSays}
+
+pub record Computed : Type 0 where
+  -- the cases marked P, reading and booking together, as a single table under one claim
+  pub samples : firstWrong says 1 cases ≡ 0
+  -- the desk's eight lines
+  pub desk-sample : desk (roomy 2 4) sample ≡ sampleSays
+  pub desk-others : desk (roomy 3 5) others ≡ othersSay
+  pub broken : answersTo Z unsound ≡ unsoundSays
+
+pub computed : Computed
+unfolding all any run same among leAt leBytes belongs allOf ofClass padded named numberFrom leap monthDays realDay dayOf isDay checkValue weighted gs1 isbn seriesVolume article texts dayCount expected keeps layout total fixedWidth startOf kindOf firstBroken contents isIn ruleIn contentRule guardedIds guarded contentKept groups firstOf nextIn previousIn groupWith nextMember previousMember isWanted groupKept refusalNumber refusalPlace checkedOf _then_ headOf idIn idOf contentWidth contentOf fieldWidth afterField onHead atField walk judge fieldBytes bytesJudged fixedJudged afterWalk optionalJudged kindJudged judged cases firstWrong markByte withMark withArrivals openOf letGoOf filledOf figuresOf lineAt lineBytes putLine addLine keyAt keyIs lineSound slipKeyAt slipIs slipLineAt slipCopiesAt addSlip slipSound usedLines usedSlips lineRoom slipRoom roomSound firstFrom allFrom sound findLine findSlip refusedNumber refusedPlace fieldsAt keyFields lineKey slipKey copiesIn nothingToBook noCopies noReference markIn orderJudged slipJudged arrivalJudged goodsJudged deliveryJudged reportJudged bookJudged fitJudged newLine lineAfter lentAfter refusedAs doneAs enteredAs settled bookAs bookKind bookRead book desk sample sampleSays others othersSay unsound answersTo unsoundSays
+computed = record { samples = refl; desk-sample = refl; desk-others = refl; broken = refl }
