@@ -9,16 +9,16 @@ use Rattle.book.specs.Asked.{lineAsked}
 use Rattle.book.specs.declared.answer.Booked.{Booked}
 use Rattle.balance.proofs.Accepted.{Refuses, Accepts, refused-or-accepted}
 
--- `book_record`: the answer, place and figures, and the lent book at exit, are fixed by the record and the lent book at entry
+-- `booking::book`: the answer, place and figures, and the lent book at exit, are fixed by the record and the lent book at entry
 pub book-unique : (s : List ℕ) (b : Lent) (said said′ : Booked) (exit exit′ : Lent)
     → outcome said exit ≡ book s b → outcome said′ exit′ ≡ book s b → (said ≡ said′) × (exit ≡ exit′)
 book-unique s b said said′ exit exit′ p q =
     let e = p ∙ sym q in
     (ap (λ (o : Outcome). o .said) e, ap (λ (o : Outcome). o .lent) e)
 
--- `line_asked`: so is what a call by key says
-pub line-unique : (key : List ℕ) (b : Lent) (said said′ : Booked) → said ≡ lineAsked key b → said′ ≡ lineAsked key b → said ≡ said′
-line-unique key b said said′ p q = p ∙ sym q
+-- `asking::line`: so is what a call by key says
+pub line-unique : (fields : List (List ℕ)) (b : Lent) (said said′ : Booked) → said ≡ lineAsked fields b → said′ ≡ lineAsked fields b → said ≡ said′
+line-unique fields b said said′ p q = p ∙ sym q
 
 -- a booking that does not answer 0 leaves the lent book as it was
 pub refusal-keeps : (s : List ℕ) (b : Lent) → (book s b .said .answer ≡ 0 → ⊥) → book s b .lent ≡ b

@@ -1,6 +1,9 @@
--- Document 01: a call by key gives a line's figures, or 20, then 16.
+-- Document 01: a call by key gives a line's figures, or 20, then 16; a key field of wrong length matches no line.
 use Prim.Native.Nat.{ℕ}
-use mathlib.Core.List.{List}
+use mathlib.Core.Bool.{Bool, true, false, _&&_}
+use mathlib.Core.List.{List, [], _∷_, _++_}
+use lib.Dec.{eqb}
+use lib.ListN.{length}
 use Rattle.cells.specs.Bytes.{pick}
 use Rattle.entry.specs.Stored.{lineAt}
 use Rattle.book.specs.Lent.{Lent, sound, findLine}
@@ -10,10 +13,30 @@ use Rattle.book.specs.declared.seek.Found.the-variants.{At, Nothing}
 use Rattle.book.specs.declared.answer.Refused.the-variants.{Unsound, NoLine}
 use Rattle.book.specs.declared.answer.Booked.{Booked}
 
+-- the lengths of a key's fields: school, its qualifier, supplier, its qualifier, reference, article, its qualifier
+abbrev pub keyWidths : List ℕ
+keyWidths = 10 ∷ 2 ∷ 10 ∷ 2 ∷ 10 ∷ 13 ∷ 2 ∷ []
+
+-- each field has its length
+unfoldable pub areWide : List ℕ → List (List ℕ) → Bool
+areWide [] [] = true
+areWide [] (f ∷ fs) = false
+areWide (w ∷ ws) [] = false
+areWide (w ∷ ws) (f ∷ fs) = eqb (length f) w && areWide ws fs
+
+-- the fields, one after the other
+unfoldable pub keyOf : List (List ℕ) → List ℕ
+keyOf [] = []
+keyOf (f ∷ fs) = f ++ keyOf fs
+
 unfoldable pub figuresAt : Lent → Found → Booked
 figuresAt b Nothing = refusedAs NoLine
 figuresAt b (At i) = doneAs (lineAt (b .lines) i)
 
--- the key's fields are not judged; a key of another length matches no line
-unfoldable pub lineAsked : List ℕ → Lent → Booked
-lineAsked key b = pick (sound b) (figuresAt b (findLine b key)) (refusedAs Unsound)
+-- what is asked of a sound book; the key's fields are not judged by the field rules
+unfoldable pub figuresOfKey : List (List ℕ) → Lent → Booked
+figuresOfKey fields b = pick (areWide keyWidths fields) (figuresAt b (findLine b (keyOf fields))) (refusedAs NoLine)
+
+-- 20 first
+unfoldable pub lineAsked : List (List ℕ) → Lent → Booked
+lineAsked fields b = pick (sound b) (figuresOfKey fields b) (refusedAs Unsound)

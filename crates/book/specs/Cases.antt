@@ -1,9 +1,9 @@
--- Cases of booking on bytes: the desk's eight records, the whole table of cases marked P, and unsound books.
+-- Cases of booking on bytes: the desk's eight records, the whole table of cases marked P, unsound books, and calls by key.
 use Prim.Native.Nat.{ℕ, suc, _*_}
 use Prim.Native.String.{String}
 use mathlib.Core.List.{List, [], _∷_, _++_}
 use lib.ListN.{replicate, take, drop, set}
-use lib.Seq.{sets}
+use lib.Seq.{slice, sets}
 use Rattle.cells.specs.Bytes.{bytes}
 use Rattle.record.specs.Answers.{checkedOf}
 use Rattle.record.specs.Read.{judged}
@@ -14,6 +14,7 @@ use Rattle.entry.specs.Stored.{lineWidth, slipWidth, keyWidth, markAt, arrivedA
 use Rattle.entry.specs.declared.line.Figures.{Figures}
 use Rattle.book.specs.Lent.{Lent}
 use Rattle.book.specs.Booking.{Outcome, book}
+use Rattle.book.specs.Asked.{lineAsked}
 use Rattle.book.specs.declared.answer.Booked.{Booked}
 
 -- an empty book whose rooms held something else before
@@ -141,3 +142,25 @@ answersTo s (b ∷ bs) = book s b .said .answer ∷ answersTo s bs
 
 unfoldable pub unsoundSays : List ℕ
 unsoundSays = 0 ∷ 20 ∷ 20 ∷ 20 ∷ 0 ∷ 20 ∷ 20 ∷ 20 ∷ 20 ∷ 20 ∷ 20 ∷ 20 ∷ 0 ∷ 20 ∷ 0 ∷ 20 ∷ 0 ∷ 20 ∷ 20 ∷ []
+
+-- the fields of the key of the line that X adds, from a school and its qualifier on
+abbrev keyFrom : List ℕ → List ℕ → List (List ℕ)
+keyFrom school qualifier =
+    school ∷ qualifier ∷ slice 16 26 X ∷ slice 26 28 X ∷ slice 36 46 X ∷ slice 46 59 X ∷ slice 59 61 X ∷ []
+
+-- calls by key on the book after X: X's own; the school's last blank moved to the qualifier; another school; X's own with one line more than there is room for
+unfoldable pub asked : Lent → List (List ℕ)
+asked b =
+    printed (lineAsked (keyFrom (slice 4 14 X) (slice 14 16 X)) b)
+    ∷ printed (lineAsked (keyFrom (slice 4 13 X) (slice 13 16 X)) b)
+    ∷ printed (lineAsked (keyFrom (bytes "43211     ") (slice 14 16 X)) b)
+    ∷ printed (lineAsked (keyFrom (slice 4 14 X) (slice 14 16 X)) (record { lines = b .lines; slips = b .slips; used = 2 ∷ 0 ∷ [] }))
+    ∷ []
+
+unfoldable pub askedSay : List (List ℕ)
+askedSay =
+    (0 ∷ 10 ∷ 0 ∷ 10 ∷ 0 ∷ 0 ∷ [])
+    ∷ (16 ∷ 0 ∷ 0 ∷ 0 ∷ 0 ∷ 0 ∷ [])
+    ∷ (16 ∷ 0 ∷ 0 ∷ 0 ∷ 0 ∷ 0 ∷ [])
+    ∷ (20 ∷ 0 ∷ 0 ∷ 0 ∷ 0 ∷ 0 ∷ [])
+    ∷ []

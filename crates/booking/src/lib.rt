@@ -1,7 +1,6 @@
-// The public calls of the book: a record booked, and a line asked for by its key.
+// The public call of booking: a record booked into a lent book.
 ghost use mathlib.Core.Path.{_≡_};
 ghost use mathlib.Core.Bool.{true};
-ghost use mathlib.Core.List.{[], _∷_};
 ghost use Prim.Native.Nat.{_≤_};
 ghost use lib.ListN.{length};
 ghost use Rattle.record.specs.Layout.{fixedWidth, kindOf};
@@ -9,7 +8,6 @@ ghost use Rattle.record.specs.Read.{judged};
 ghost use Rattle.entry.specs.Stored.{mostCopies};
 ghost use Rattle.book.specs.Lent.{lent, sound};
 ghost use Rattle.book.specs.Booking.{copiesIn, outcome, bookAs, book};
-ghost use Rattle.book.specs.Asked.{lineAsked};
 
 pub mod enter;
 
@@ -19,15 +17,11 @@ use crate::enter::enter_report;
 use book::answer::Booked;
 use book::answer::Refused;
 use book::answer::Verdict;
-use book::answer::done;
 use book::answer::refuse;
 use book::judge::judge_goods;
 use book::judge::judge_order;
 use book::judge::judge_report;
-use book::seek::Found;
-use book::seek::find_line;
 use book::seek::is_sound;
-use entry::stored::read_line;
 use reader::judge_record;
 use record::layout::Kind;
 use record::layout::Kinded;
@@ -84,18 +78,5 @@ pub fn book(s: &[u8], lines: &mut [u8], slips: &mut [u8], used: &mut [usize; 2])
                 Kind::Report => book_report(s, lines, slips, used),
             },
         },
-    }
-}
-
-// The figures of the first line with a key: 20, then 16. A key of another length matches no line.
-pub fn line(key: &[u8], lines: &[u8], slips: &[u8], used: &[usize; 2]) -> Booked
-    ensures { λ r. ⌜ r ≡ lineAsked (now (key .entry)) (lent (now (lines .entry)) (now (slips .entry)) (now (used .entry))) ⌝ }
-{
-    if !is_sound(lines, slips, used) {
-        return refuse(Refused::Unsound);
-    }
-    match find_line(lines, used[0], key) {
-        Found::Nothing => refuse(Refused::NoLine),
-        Found::At(i) => done(read_line(lines, i)),
     }
 }

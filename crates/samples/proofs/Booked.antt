@@ -18,7 +18,13 @@ use Rattle.entry.specs.Line.{markByte, withMark, withArrivals, openOf, letGoOf,
 use Rattle.entry.specs.Stored.{lineAt, lineBytes, putLine, addLine, keyAt, keyIs, lineSound, slipKeyAt, slipIs, slipLineAt, slipCopiesAt, addSlip, slipSound}
 use Rattle.book.specs.Lent.{usedLines, usedSlips, lineRoom, slipRoom, roomSound, firstFrom, allFrom, sound, findLine, findSlip}
 use Rattle.book.specs.Booking.{refusedNumber, refusedPlace, fieldsAt, keyFields, lineKey, slipKey, copiesIn, nothingToBook, noCopies, noReference, markIn, orderJudged, slipJudged, arrivalJudged, goodsJudged, deliveryJudged, reportJudged, bookJudged, fitJudged, newLine, lineAfter, lentAfter, refusedAs, doneAs, enteredAs, settled, bookAs, bookKind, bookRead, book}
-use Rattle.book.specs.Cases.{roomy, desk, sample, sampleSays, others, othersSay, says, unsound, answersTo, unsoundSays}
+use Rattle.book.specs.Asked.{areWide, keyOf, figuresAt, figuresOfKey, lineAsked}
+use Rattle.book.specs.Cases.{roomy, desk, sample, sampleSays, others, othersSay, says, unsound, answersTo, unsoundSays, asked, askedSay}
+
+-- the line that X adds, asked for by its key
+calls-by-key : asked (book X (roomy 1 1) .lent) ≡ askedSay
+unfolding all any run same among leAt leBytes belongs allOf ofClass padded named numberFrom leap monthDays realDay dayOf isDay checkValue weighted gs1 isbn seriesVolume article texts dayCount expected keeps layout total fixedWidth startOf kindOf firstBroken contents isIn ruleIn contentRule guardedIds guarded contentKept groups firstOf nextIn previousIn groupWith nextMember previousMember isWanted groupKept refusalNumber refusalPlace checkedOf _then_ headOf idIn idOf contentWidth contentOf fieldWidth afterField onHead atField walk judge fieldBytes bytesJudged fixedJudged afterWalk optionalJudged kindJudged judged markByte withMark withArrivals openOf letGoOf filledOf figuresOf lineAt lineBytes putLine addLine keyAt keyIs lineSound slipKeyAt slipIs slipLineAt slipCopiesAt addSlip slipSound usedLines usedSlips lineRoom slipRoom roomSound firstFrom allFrom sound findLine findSlip refusedNumber refusedPlace fieldsAt keyFields lineKey slipKey copiesIn nothingToBook noCopies noReference markIn orderJudged slipJudged arrivalJudged goodsJudged deliveryJudged reportJudged bookJudged fitJudged newLine lineAfter lentAfter refusedAs doneAs enteredAs settled bookAs bookKind bookRead book areWide keyOf figuresAt figuresOfKey lineAsked asked askedSay
+calls-by-key = refl
 
 pub record Computed : Type 0 where
   -- the cases marked P, reading and booking together, as a single table under one claim
@@ -27,7 +33,8 @@ pub record Computed : Type 0 where
   pub desk-sample : desk (roomy 2 4) sample ≡ sampleSays
   pub desk-others : desk (roomy 3 5) others ≡ othersSay
   pub broken : answersTo Z unsound ≡ unsoundSays
+  pub keyed : asked (book X (roomy 1 1) .lent) ≡ askedSay
 
 pub computed : Computed
 unfolding all any run same among leAt leBytes belongs allOf ofClass padded named numberFrom leap monthDays realDay dayOf isDay checkValue weighted gs1 isbn seriesVolume article texts dayCount expected keeps layout total fixedWidth startOf kindOf firstBroken contents isIn ruleIn contentRule guardedIds guarded contentKept groups firstOf nextIn previousIn groupWith nextMember previousMember isWanted groupKept refusalNumber refusalPlace checkedOf _then_ headOf idIn idOf contentWidth contentOf fieldWidth afterField onHead atField walk judge fieldBytes bytesJudged fixedJudged afterWalk optionalJudged kindJudged judged cases firstWrong markByte withMark withArrivals openOf letGoOf filledOf figuresOf lineAt lineBytes putLine addLine keyAt keyIs lineSound slipKeyAt slipIs slipLineAt slipCopiesAt addSlip slipSound usedLines usedSlips lineRoom slipRoom roomSound firstFrom allFrom sound findLine findSlip refusedNumber refusedPlace fieldsAt keyFields lineKey slipKey copiesIn nothingToBook noCopies noReference markIn orderJudged slipJudged arrivalJudged goodsJudged deliveryJudged reportJudged bookJudged fitJudged newLine lineAfter lentAfter refusedAs doneAs enteredAs settled bookAs bookKind bookRead book desk sample sampleSays others othersSay unsound answersTo unsoundSays
-computed = record { samples = refl; desk-sample = refl; desk-others = refl; broken = refl }
+computed = record { samples = refl; desk-sample = refl; desk-others = refl; broken = refl; keyed = calls-by-key }
