@@ -7,13 +7,13 @@ test:
 	@rt fmt --check
 	@rt ci
 
-# Prints what is read of each record of a file.
-book: target/bin/papers
+# Books the records of a file into an empty book and prints one line each.
+book: target/bin/desk
 	@test -n "$(FILE)" || { echo "usage: make book FILE=records.bwa" >&2; exit 2; }
-	@target/bin/papers < "$(FILE)"
+	@target/bin/desk < "$(FILE)"
 
-target/bin/papers: crates.txt $(wildcard crates/*/src/*.rt)
-	@rt check papers > target.log 2>&1 || { cat target.log; rm -f target.log; exit 1; }
+target/bin/desk: crates.txt $(wildcard crates/*/src/*.rt)
+	@rt check desk > target.log 2>&1 || { cat target.log; rm -f target.log; exit 1; }
 	@rm -f target.log
 
 clean:

@@ -1,0 +1,22 @@
+-- What is printed of each record (document 01, "Samples").
+use Prim.Native.Nat.{ℕ}
+use mathlib.Core.Bool.{_||_}
+use mathlib.Core.List.{List, [], _∷_}
+use lib.Dec.{eqb}
+use lib.ListN.{getD}
+use Rattle.cells.specs.Bytes.{pick}
+use Rattle.book.specs.Lent.{Lent}
+use Rattle.book.specs.Booking.{Outcome, book}
+
+-- the byte `?`
+abbrev pub unknownLetter : ℕ
+unknownLetter = 63
+
+-- `?` for answers 1 and 2, else the record's first byte
+unfoldable pub kindLetter : ℕ → List ℕ → ℕ
+kindLetter answer s = pick (eqb answer 1 || eqb answer 2) unknownLetter (getD s 0 unknownLetter)
+
+-- records booked one after another, each into the book that the one before it left
+unfoldable pub bookEach : List (List ℕ) → Lent → List Outcome
+bookEach [] b = []
+bookEach (s ∷ ss) b = book s b ∷ bookEach ss (book s b .lent)

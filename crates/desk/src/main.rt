@@ -1,0 +1,205 @@
+// The desk program: books the records on standard input into rooms for 256 lines and 512 slips, and prints one line each.
+ghost use mathlib.Core.Path.{_≡_};
+ghost use Rattle.desk.specs.Printed.{kindLetter};
+use booking::book;
+use cells::part;
+use entry::line::Figures;
+use feed::Held;
+use feed::ended_length;
+use feed::ends;
+use feed::hold;
+use feed::left_length;
+use feed::start;
+use libc::STDIN_FILENO;
+use libc::STDOUT_FILENO;
+
+const UNKNOWN: u8 = b'?';
+
+// 256 lines of 56 bytes, 512 slips of 50.
+const LINES_ROOM: usize = 14336;
+
+const SLIPS_ROOM: usize = 25600;
+
+// What came since the last CR LF, how many records came before, and whether there is more to read.
+struct Reading {
+    held: Held,
+    number: u64,
+    more: bool,
+}
+
+// The first byte of a record, but `?` where the answer says that it is over-long or of no known kind.
+fn kind_letter(answer: u64, s: &[u8]) -> u8
+    ensures { λ r. ⌜ r ≡ kindLetter answer (now (s .entry)) ⌝ }
+{
+    if answer == 1 {
+        return UNKNOWN;
+    }
+    if answer == 2 {
+        return UNKNOWN;
+    }
+    if s.len() == 0 {
+        return UNKNOWN;
+    }
+    s[0]
+}
+
+fn text(s: &[u8]) {
+    io::write_all(STDOUT_FILENO, s);
+}
+
+fn number(n: u64) {
+    io::print_decimal(STDOUT_FILENO, n);
+}
+
+// A number with a blank before it.
+fn next(n: u64) {
+    text(b" ");
+    number(n);
+}
+
+fn letter(b: u8) {
+    let s = [b' ', b];
+    text(&s);
+}
+
+fn show_figures(f: Figures) {
+    next(f.ordered);
+    next(f.filled);
+    next(f.still_open);
+    next(f.let_go);
+    next(f.extra);
+}
+
+// One more, as long as there is a number.
+fn following(n: u64) -> u64 {
+    if n < u64::MAX {
+        return n + 1;
+    }
+    n
+}
+
+// Books a record and prints its line.
+fn answer(n: u64, s: &[u8], lines: &mut [u8], slips: &mut [u8], used: &mut [usize; 2]) {
+    let booked = book(s, lines, slips, used);
+    let figures = booked.figures;
+    number(n);
+    letter(kind_letter(booked.answer, s));
+    next(booked.answer);
+    show_figures(figures);
+    text(b"\n");
+}
+
+// A byte ends the record that is held, or is held itself.
+fn take_byte(
+    at: Reading,
+    b: u8,
+    buffer: &mut [u8; 1025],
+    lines: &mut [u8],
+    slips: &mut [u8],
+    used: &mut [usize; 2],
+) -> Reading {
+    let held = at.held;
+    if ends(held, b) {
+        let n = following(at.number);
+        answer(n, part(buffer, 0, ended_length(held)), lines, slips, used);
+        return Reading {
+            held: start(),
+            number: n,
+            more: true,
+        };
+    }
+    Reading {
+        held: hold(held, buffer, b),
+        number: at.number,
+        more: true,
+    }
+}
+
+fn take_bytes(
+    at: Reading,
+    s: &[u8],
+    buffer: &mut [u8; 1025],
+    lines: &mut [u8],
+    slips: &mut [u8],
+    used: &mut [usize; 2],
+) -> Reading {
+    let mut reading = at;
+    let mut i: usize = 0;
+    while i < s.len() {
+        reading = take_byte(reading, s[i], buffer, lines, slips, used);
+        i += 1;
+    }
+    reading
+}
+
+// There is nothing more to read.
+fn over(at: Reading) -> Reading {
+    let held = at.held;
+    Reading {
+        held: held,
+        number: at.number,
+        more: false,
+    }
+}
+
+// Reads once and takes what came.
+fn take_some(
+    at: Reading,
+    buffer: &mut [u8; 1025],
+    lines: &mut [u8],
+    slips: &mut [u8],
+    used: &mut [usize; 2],
+) -> Reading {
+    let mut space = io::large_buffer();
+    let got = libc::read(STDIN_FILENO, &mut space);
+    if got <= 0 {
+        return over(at);
+    }
+    let n = io::count(got, &space);
+    take_bytes(at, &space[..n], buffer, lines, slips, used)
+}
+
+// Reads to the end. A proved loop has to end, so it counts its turns down from a number that no run uses up.
+fn take_all(
+    at: Reading,
+    buffer: &mut [u8; 1025],
+    lines: &mut [u8],
+    slips: &mut [u8],
+    used: &mut [usize; 2],
+) -> Reading {
+    let mut reading = at;
+    let mut turns = u64::MAX;
+    while turns > 0 && reading.more {
+        reading = take_some(reading, buffer, lines, slips, used);
+        turns -= 1;
+    }
+    reading
+}
+
+// The bytes after the last CR LF, if any, are one more record.
+fn take_left(
+    at: Reading,
+    buffer: &[u8; 1025],
+    lines: &mut [u8],
+    slips: &mut [u8],
+    used: &mut [usize; 2],
+) {
+    let n = left_length(at.held);
+    if n > 0 {
+        answer(following(at.number), part(buffer, 0, n), lines, slips, used);
+    }
+}
+
+fn main() {
+    let mut buffer = [0u8; 1025];
+    let mut lines = [0u8; LINES_ROOM];
+    let mut slips = [0u8; SLIPS_ROOM];
+    let mut used = [0usize; 2];
+    let first = Reading {
+        held: start(),
+        number: 0,
+        more: true,
+    };
+    let last = take_all(first, &mut buffer, &mut lines, &mut slips, &mut used);
+    take_left(last, &buffer, &mut lines, &mut slips, &mut used);
+}
