@@ -1,20 +1,105 @@
-# Wizqamul. `make test` is the whole gate, `make book FILE=..` the main job.
+# Wizqamul. Two commands do everything, and set up what they need:
+#   make book FILE=examples/day.bwa   books the records of a file into an empty book, one line printed for each
+#   make test                         the whole gate; its last line is `N passed, 0 failed`
+# Besides: make lib, make host, make compare, make bench, make fuzz, make clean.
 
-.PHONY: test book clean
+.PHONY: book test lib host compare sanitized header bench fuzz tools clean
 
-# The layout of every file, then every proof, every must-fail edit and every program.
-test:
-	@rt fmt --check
-	@rt ci
+# The library is x86-64 code. On another machine its C programs are built by Debian's cross compiler and run under its emulator.
+ifeq ($(shell uname -m),x86_64)
+COMPILER = gcc
+RUN =
+PACKAGES = gcc libc6-dev
+MACHINE = x86-64, not emulated
+else
+COMPILER = x86_64-linux-gnu-gcc
+EMULATOR = qemu-x86_64
+RUN = $(EMULATOR) -L /usr/x86_64-linux-gnu
+PACKAGES = gcc-x86-64-linux-gnu libc6-dev-amd64-cross qemu-user
+MACHINE = $(shell uname -m), x86-64 emulated
+endif
+
+WARNINGS = -std=c99 -Wall -Wextra -pedantic
+LIBRARY = target/staticlib/libwizqamul.a
+REFERENCE = $(wildcard tests/reference_*.c)
+DRIVER = tests/compare.c tests/compare_records.c tests/compare_books.c tests/samples.c tests/lending.c tests/inputs.c
+HEADERS = $(wildcard include/*.h tests/*.h host/*.h)
+RATTLE = crates.txt $(wildcard crates/*/src/*.rt)
+
+# Runs a command of the kit and shows what it said only where it fails.
+quietly = log=$$(mktemp); $(1) > $$log 2>&1 || { cat $$log; rm -f $$log; exit 1; }; rm -f $$log
 
 # Books the records of a file into an empty book and prints one line each.
-book: target/bin/desk
-	@test -n "$(FILE)" || { echo "usage: make book FILE=records.bwa" >&2; exit 2; }
-	@target/bin/desk < "$(FILE)"
+book: target/bin/desk tools
+	@test -n "$(FILE)" || { echo "usage: make book FILE=examples/day.bwa" >&2; exit 2; }
+	@$(RUN) target/bin/desk < "$(FILE)"
 
-target/bin/desk: crates.txt $(wildcard crates/*/src/*.rt)
-	@rt check desk > target.log 2>&1 || { cat target.log; rm -f target.log; exit 1; }
-	@rm -f target.log
+# The layout of every file; every proof, every must-fail edit and every program; then the C library against an independent implementation, and the host program. The verdict of the proofs stands last.
+test: tools
+	@rt fmt --check
+	@log=$$(mktemp); trap 'rm -f $$log' EXIT; \
+	rt ci 2>&1 | tee $$log; verdict=$$(tail -n 1 $$log); \
+	case "$$verdict" in *" passed, 0 failed") ;; *) exit 1 ;; esac; \
+	$(MAKE) --no-print-directory header compare sanitized host-test && echo "$$verdict"
+
+lib: $(LIBRARY)
+
+host: target/c/wizqamul-host
+	@echo "target/c/wizqamul-host BOOK [FILE..]"
+
+# More than a million calls, given to the library and to the independent implementation.
+compare: target/c/compare
+	@$(RUN) target/c/compare
+
+# The same for longer, with fresh seeds, until it is stopped.
+SEED ?= 1
+fuzz: target/c/compare
+	@$(RUN) target/c/compare 0 $(SEED)
+
+# Time of the library over that of the independent implementation.
+bench: target/c/bench
+	@echo "machine: $(MACHINE)"
+	@$(RUN) target/c/bench crates/papers/stdin
+
+# A part of the comparison with the C side under AddressSanitizer and UBSan, where the compiler has them.
+SANITIZE = -g -fsanitize=address,undefined -fno-sanitize-recover=undefined
+sanitized: $(LIBRARY) $(DRIVER) $(REFERENCE) $(HEADERS)
+	@if [ -z "$(RUN)" ] && echo 'int main(void) { return 0; }' | $(COMPILER) -x c $(SANITIZE) -o target/c/probe - 2> /dev/null && target/c/probe; then \
+	$(COMPILER) $(WARNINGS) -O1 $(SANITIZE) -o target/c/compare-sanitized $(DRIVER) $(REFERENCE) $(LIBRARY) && target/c/compare-sanitized 300000 | tail -n 1; \
+	else echo "sanitizers: not on this machine"; fi
+
+# The header by itself, as C and, where there is a compiler for it, as C++.
+header: tools
+	@$(COMPILER) $(WARNINGS) -fsyntax-only -x c include/wizqamul.h
+	@if command -v $(COMPILER:gcc=g++) > /dev/null; then $(COMPILER:gcc=g++) -Wall -Wextra -pedantic -fsyntax-only -x c++ include/wizqamul.h; fi
+
+.PHONY: host-test
+host-test: target/c/wizqamul-host
+	@RUN="$(RUN)" host/test.sh target/c/wizqamul-host
+
+target/bin/desk: $(RATTLE)
+	@$(call quietly,rt check desk)
+
+$(LIBRARY): $(RATTLE)
+	@$(call quietly,rt staticlib wizqamul)
+
+target/c/compare: $(DRIVER) $(REFERENCE) $(HEADERS) $(LIBRARY) | tools target/c
+	@$(COMPILER) $(WARNINGS) -O2 -o $@ $(DRIVER) $(REFERENCE) $(LIBRARY)
+
+target/c/bench: tests/bench.c $(REFERENCE) $(HEADERS) $(LIBRARY) | tools target/c
+	@$(COMPILER) $(WARNINGS) -O2 -o $@ tests/bench.c $(REFERENCE) $(LIBRARY)
+
+target/c/wizqamul-host: $(wildcard host/*.c) $(HEADERS) $(LIBRARY) | tools target/c
+	@$(COMPILER) $(WARNINGS) -O2 -Iinclude -o $@ $(wildcard host/*.c) $(LIBRARY)
+
+target/c:
+	@mkdir -p $@
+
+# What the C side needs, from Debian where it is missing.
+tools:
+	@command -v $(COMPILER) > /dev/null && { [ -z "$(EMULATOR)" ] || command -v $(EMULATOR) > /dev/null; } \
+	|| { if [ "$$(id -u)" = 0 ]; then apt-get -q update && apt-get -q -y install $(PACKAGES); \
+	else sudo apt-get -q update && sudo apt-get -q -y install $(PACKAGES); fi; } >&2
 
 clean:
 	@rm -rf target

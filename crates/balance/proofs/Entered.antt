@@ -30,7 +30,7 @@ abbrev pub withLine : Lent → ℕ → Stored → Lent
 withLine b i l = record { lines = putLine (b .lines) i l; slips = b .slips; used = b .used }
 
 module _ (b : Lent) (i : ℕ) (l : Stored) (k : Kept b) (used : i < usedLines b) (bounded : Bounded l) where
-  at : lineWidth * i + lineWidth ≤ length (b .lines)
+  pub at : lineWidth * i + lineWidth ≤ length (b .lines)
   at =
       let say = sound-so b (k .is-sound) in
       line-room b say i (omega (arith, say .lines-fit))
@@ -73,14 +73,14 @@ abbrev pub moreLine : Lent → Key → Stored → Lent
 moreLine b key l = record { lines = addLine (b .lines) (usedLines b) key l; slips = b .slips; used = set (b .used) 0 (usedLines b + 1) }
 
 module _ (b : Lent) (key : Key) (l : Stored) (k : Kept b) (room : usedLines b < lineRoom b) (wide : length key ≡ keyWidth) (bounded : Bounded l) where
-  next : lineWidth * usedLines b + lineWidth ≤ length (b .lines)
+  pub next : lineWidth * usedLines b + lineWidth ≤ length (b .lines)
   next = line-room b (sound-so b (k .is-sound)) (usedLines b) room
 
-  lines-after : usedLines (moreLine b key l) ≡ suc (usedLines b)
+  pub lines-after : usedLines (moreLine b key l) ≡ suc (usedLines b)
   unfolding usedLines
   lines-after = rw (getD-set-same (b .used) 0 (usedLines b + 1) 0 (omega (arith, k .counts))) (add-one (usedLines b))
 
-  slips-after : usedSlips (moreLine b key l) ≡ usedSlips b
+  pub slips-after : usedSlips (moreLine b key l) ≡ usedSlips b
   unfolding usedSlips
   slips-after = getD-set-other (b .used) 0 1 (usedLines b + 1) 0 (λ e. omega arith)
 
@@ -148,14 +148,14 @@ abbrev pub moreSlip : Lent → Key → ℕ → ℕ → Lent
 moreSlip b key i copies = record { lines = b .lines; slips = addSlip (b .slips) (usedSlips b) key i copies; used = set (b .used) 1 (usedSlips b + 1) }
 
 module _ (b : Lent) (key : Key) (i copies : ℕ) (k : Kept b) (room : usedSlips b < slipRoom b) (wide : length key ≡ slipKeyWidth) (used : i < usedLines b) (few : copies < 65536) where
-  slip-next : slipWidth * usedSlips b + slipWidth ≤ length (b .slips)
+  pub slip-next : slipWidth * usedSlips b + slipWidth ≤ length (b .slips)
   slip-next = slip-room b (sound-so b (k .is-sound)) (usedSlips b) room
 
-  lines-as-before : usedLines (moreSlip b key i copies) ≡ usedLines b
+  pub lines-as-before : usedLines (moreSlip b key i copies) ≡ usedLines b
   unfolding usedLines
   lines-as-before = getD-set-other (b .used) 1 0 (usedSlips b + 1) 0 (λ e. omega arith)
 
-  one-slip-more : usedSlips (moreSlip b key i copies) ≡ suc (usedSlips b)
+  pub one-slip-more : usedSlips (moreSlip b key i copies) ≡ suc (usedSlips b)
   unfolding usedSlips
   one-slip-more = rw (getD-set-same (b .used) 1 (usedSlips b + 1) 0 (omega (arith, k .counts))) (add-one (usedSlips b))
 

@@ -40,7 +40,7 @@ use Rattle.balance.proofs.Entered.{lineOf, withLine, put-here, put-othe
 use Rattle.balance.proofs.Found.{key-told, line-used, order-passes, goods-passes, report-passes}
 
 -- a verdict that fits after a test that refuses: the test does not hold, and the rest fits
-passed : (t : Bool) (r : Refused) (v : Verdict) (i : ℕ) → pick t (Refuse r) v ≡ Fits i → (t ≡ false) × (v ≡ Fits i)
+pub passed : (t : Bool) (r : Refused) (v : Verdict) (i : ℕ) → pick t (Refuse r) v ≡ Fits i → (t ≡ false) × (v ≡ Fits i)
 passed true r v i e = let z : _≡_ {A = ℕ} 0 1 = cc in absurd (omega arith)
 passed false r v i e = (refl, e)
 
@@ -59,7 +59,7 @@ fit-passed k s b i e =
 
 module _ (b : Lent) (i : ℕ) where
   -- an order that fits: no line has its key, and there is room for the next
-  order-fits : (f : Found) → orderJudged b f ≡ Fits i → (f ≡ Nothing) × ((usedLines b < lineRoom b) × (i ≡ usedLines b))
+  pub order-fits : (f : Found) → orderJudged b f ≡ Fits i → (f ≡ Nothing) × ((usedLines b < lineRoom b) × (i ≡ usedLines b))
   unfolding orderJudged
   order-fits (At j) e = let z : _≡_ {A = ℕ} 0 1 = cc in absurd (omega arith)
   order-fits Nothing e =
@@ -87,7 +87,7 @@ module _ (b : Lent) (i : ℕ) where
       let d = p .0 in
       (ap At (sym d), (rw d (p .1 .0), p .1 .1))
 
-  delivery-fits : (key : List ℕ) (copies : ℕ) (f : Found) → deliveryJudged b key copies f ≡ Fits i
+  pub delivery-fits : (key : List ℕ) (copies : ℕ) (f : Found) → deliveryJudged b key copies f ≡ Fits i
       → (f ≡ Nothing) × ((findLine b key ≡ At i) × ((lineAt (b .lines) i .arrived + copies ≤ mostArrived) × (usedSlips b < slipRoom b)))
   unfolding deliveryJudged slipJudged
   delivery-fits key copies (At j) e =
@@ -97,7 +97,7 @@ module _ (b : Lent) (i : ℕ) where
   delivery-fits key copies Nothing e = (refl, goods-fits copies (findLine b key) e)
 
   -- a report that fits: a line has its key
-  report-fits : (f : Found) → reportJudged f ≡ Fits i → f ≡ At i
+  pub report-fits : (f : Found) → reportJudged f ≡ Fits i → f ≡ At i
   unfolding reportJudged
   report-fits Nothing e = let z : _≡_ {A = ℕ} 0 1 = cc in absurd (omega arith)
   report-fits (At j) e = cc
@@ -140,11 +140,11 @@ module _ (b : Lent) (k : Kept b) (i : ℕ) (used : i < usedLines b) where
   bounds : Bounded (lineAt (b .lines) i)
   bounds = sound-bounded (b .lines) i (sound-so b (k .is-sound) .line-sound i used)
 
-  arrivals-bounded : (copies : ℕ) → lineAt (b .lines) i .arrived + copies ≤ mostArrived → Bounded (withArrivals copies (lineAt (b .lines) i))
+  pub arrivals-bounded : (copies : ℕ) → lineAt (b .lines) i .arrived + copies ≤ mostArrived → Bounded (withArrivals copies (lineAt (b .lines) i))
   unfolding withArrivals
   arrivals-bounded copies h = record { least = bounds .least; most = bounds .most; sum = h }
 
-  mark-bounded : (m : Mark) → Bounded (withMark m (lineAt (b .lines) i))
+  pub mark-bounded : (m : Mark) → Bounded (withMark m (lineAt (b .lines) i))
   unfolding withMark
   mark-bounded m = record { least = bounds .least; most = bounds .most; sum = bounds .sum }
 

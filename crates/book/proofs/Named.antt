@@ -4,23 +4,17 @@ use mathlib.Core.List.{List, _++_, append-assoc, append-nil}
 use Prim.Native.Nat.{ℕ, _+_, _≤_}
 use native.Mathlib.Nat.{zero-add}
 use native.Mathlib.Omega.{arith}
-use lib.ListN.{length, drop, length-append}
-use lib.Seq.{slice, sets, take-add, drop-drop, length-slice}
-use Rattle.cells.proofs.Parts.{take-from}
+use lib.ListN.{length, length-append}
+use lib.Seq.{slice, sets, length-slice}
+use Rattle.cells.proofs.Parts.{parts-join}
 use Rattle.cells.proofs.Stores.{sets-append, sets-whole}
 use Rattle.record.specs.Layout.{layout, total, startOf, fixedWidth}
 use Rattle.record.specs.Values.{fieldBytes}
 use Rattle.record.specs.declared.layout.Kind.the-variants.{Order, Goods, Report}
 use Rattle.book.specs.Booking.{fieldsAt, keyFields, lineKey, slipKey}
 
--- a part and the part after it
-parts-join : (at n m : ℕ) (s : List ℕ) → slice at (at + n) s ++ slice (at + n) (at + n + m) s ≡ slice at (at + n + m) s
-parts-join at n m s =
-    let e : at + n + m ≡ at + (n + m) = omega arith in
-    rw e (sym (sym (take-from (n + m) at s) ∙ take-add n m (drop at s) ∙ rw (drop-drop n at s, take-from n at s, take-from m (at + n) s, e)))
-
--- so also before a rest
-join : (at n m : ℕ) (s rest : List ℕ) → slice at (at + n) s ++ (slice (at + n) (at + n + m) s ++ rest) ≡ slice at (at + n + m) s ++ rest
+-- a part and the part after it, before a rest
+join : (at n m : ℕ) (s rest : List ℕ) → slice at (at + n) s ++ (slice (at + n) (at + n + m) s ++ rest) ≡ slice at (at + (n + m)) s ++ rest
 join at n m s rest = sym (append-assoc (slice at (at + n) s) _ rest) ∙ ap (λ (p : List ℕ). p ++ rest) (parts-join at n m s)
 
 -- an array that two parts, stored one behind the other, fill

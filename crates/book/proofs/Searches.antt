@@ -6,7 +6,7 @@ use native.Mathlib.Decide.{decLe}
 use native.Mathlib.Numerals.{add-one}
 use native.Mathlib.Omega.{arith}
 use Rattle.cells.specs.Bytes.{pick}
-use Rattle.cells.proofs.Bools.{and-left, and-right}
+use Rattle.cells.proofs.Bools.{split, and-left, and-right}
 use Rattle.book.specs.Lent.{firstFrom, allFrom}
 use Rattle.book.specs.declared.seek.Found.the-variants.{At, Nothing}
 
@@ -62,6 +62,21 @@ found-at p (suc n) i j h = here (p i) refl h (found-at p n (suc i) j)
     here false e f rest =
         let r = rest f in
         (omega (arith, r .0), omega (arith, r .1), r .2)
+
+-- a search that finds nothing: the test holds at none of the places
+pub none-at : (p : ℕ → Bool) (n i x : ℕ) → firstFrom p n i ≡ Nothing → i ≤ x → x < i + n → p x ≡ false
+unfolding firstFrom
+none-at p zero i x e a c = absurd (omega arith)
+none-at p (suc n) i x e a c =
+    split (p i)
+    (λ h. let z : _≡_ {A = ℕ} 0 1 = cc in absurd (omega arith))
+    (λ h. side h (decLe (suc i) x) (none-at p n (suc i) x (rw h at e)))
+  where
+    side : p i ≡ false → Dec (suc i ≤ x) → (suc i ≤ x → x < suc i + n → p x ≡ false) → p x ≡ false
+    side h (yes l) rest = rest l (omega arith)
+    side h (no l) rest =
+        let d : x ≡ i = omega arith in
+        rw d h
 
 -- a test that holds at each of n places from i on holds at each of them
 pub all-at : (p : ℕ → Bool) (n i j : ℕ) → allFrom p n i ≡ true → i ≤ j → j < i + n → p j ≡ true

@@ -79,8 +79,11 @@ unfoldable pub lineKey : Kind → List ℕ → List ℕ
 lineKey k s = fieldsAt k (keyFields k) s
 
 -- a slip's key is supplier and school with qualifiers, date, slip number, position
+abbrev pub slipFields : List ℕ
+slipFields = 1 ∷ 2 ∷ 3 ∷ 4 ∷ 5 ∷ 6 ∷ 7 ∷ []
+
 unfoldable pub slipKey : List ℕ → List ℕ
-slipKey s = fieldsAt Goods (1 ∷ 2 ∷ 3 ∷ 4 ∷ 5 ∷ 6 ∷ 7 ∷ []) s
+slipKey s = fieldsAt Goods slipFields s
 
 -- the quantity of an order or a delivery
 unfoldable pub copiesIn : Kind → List ℕ → ℕ

@@ -34,6 +34,7 @@ pub enum Verdict {
 }
 
 // The answer number and place of document 01, and the line's figures.
+#[repr(C)]
 pub struct Booked {
     pub answer: u64,
     pub place: usize,

@@ -6,8 +6,8 @@ use Prim.Native.Nat.{ℕ, zero, suc, _+_, _*_, _≤_, _<_}
 use native.Mathlib.Nat.{zero-add, add-zero, add-suc, suc-add, not-suc-le-zero, mul-le-mul-left, mul-suc, add-assoc}
 use native.Mathlib.Decide.{decLe}
 use native.Mathlib.Omega.{arith}
-use lib.ListN.{length, getD, take, drop, set, length-set, length-take, length-drop}
-use lib.Seq.{sets, sets-eq, set-comm, slice, drop-length, getD-set-same, getD-set-other, getD-take, getD-drop, ext-getD, drop-at, take-at, length-take-le}
+use lib.ListN.{length, getD, take, drop, set, length-set, length-take, length-drop, take-append-drop}
+use lib.Seq.{sets, sets-eq, set-comm, slice, drop-length, getD-set-same, getD-set-other, getD-take, getD-drop, ext-getD, drop-at, take-at, take-take, length-take-le}
 use Rattle.cells.specs.Little.{leAt}
 use Rattle.cells.proofs.Parts.{take-from}
 
@@ -103,3 +103,28 @@ module _ (s t : List ℕ) (w j : ℕ) (bytes : (k : ℕ) → k < w → getD s (w
 
   pub front-ext : (n : ℕ) → n ≤ w → length s ≡ length t → slice (w * j) (w * j + n) s ≡ slice (w * j) (w * j + n) t
   front-ext n h e = part-ext s t (w * j) n e (λ k m. bytes k (omega arith))
+
+-- eight bytes stored one after the other are one run
+pub eight-stored : (d : List ℕ) (at x0 x1 x2 x3 x4 x5 x6 x7 : ℕ) → set (set (set (set (set (set (set (set d at x0) (at + 1) x1) (at + 2) x2) (at + 3) x3) (at + 4) x4) (at + 5) x5) (at + 6) x6) (at + 7) x7 ≡ sets d at (x0 ∷ x1 ∷ x2 ∷ x3 ∷ x4 ∷ x5 ∷ x6 ∷ x7 ∷ [])
+eight-stored d at x0 x1 x2 x3 x4 x5 x6 x7 =
+    let e1 : at + 1 ≡ suc at = omega arith in
+    let e2 : at + 2 ≡ suc (suc at) = omega arith in
+    let e3 : at + 3 ≡ suc (suc (suc at)) = omega arith in
+    let e4 : at + 4 ≡ suc (suc (suc (suc at))) = omega arith in
+    let e5 : at + 5 ≡ suc (suc (suc (suc (suc at)))) = omega arith in
+    let e6 : at + 6 ≡ suc (suc (suc (suc (suc (suc at))))) = omega arith in
+    let e7 : at + 7 ≡ suc (suc (suc (suc (suc (suc (suc at)))))) = omega arith in
+    rw (e1, e2, e3, e4, e5, e6, e7) refl
+
+-- eight bytes more of a list stored behind its front
+pub eights-next : (d : List ℕ) (at : ℕ) (s : List ℕ) (i : ℕ) → i + 8 ≤ length s → sets (sets d at (take i s)) (at + i) (slice i (i + 8) s) ≡ sets d at (take (i + 8) s)
+eights-next d at s i h =
+    let e : take i s ++ slice i (i + 8) s ≡ take (i + 8) s = rw (← take-take i (i + 8) s (omega arith)) (take-append-drop i (take (i + 8) s)) in
+    let l : at + length (take i s) ≡ at + i = ap (λ (n : ℕ). at + n) (length-take-le i s (omega arith)) in
+    sym (ap (sets d at) (sym e) ∙ sets-append d at (take i s) (slice i (i + 8) s) ∙ ap (λ (k : ℕ). sets (sets d at (take i s)) k (slice i (i + 8) s)) l)
+
+-- the front of a list and what is left of it are all of it
+pub sets-rest : (d : List ℕ) (at : ℕ) (s : List ℕ) (i : ℕ) → i ≤ length s → sets (sets d at (take i s)) (at + i) (drop i s) ≡ sets d at s
+sets-rest d at s i h =
+    let l : at + length (take i s) ≡ at + i = ap (λ (n : ℕ). at + n) (length-take-le i s h) in
+    sym (ap (sets d at) (sym (take-append-drop i s)) ∙ sets-append d at (take i s) (drop i s) ∙ ap (λ (k : ℕ). sets (sets d at (take i s)) k (drop i s)) l)

@@ -17,6 +17,7 @@ pub struct Line {
     pub mark: Mark,
 }
 
+#[repr(C)]
 pub struct Figures {
     pub ordered: u64,
     pub filled: u64,

@@ -10,13 +10,15 @@ use cells::little::get2;
 use cells::little::get4;
 use cells::little::put2;
 use cells::little::put4;
-use cells::part;
 use cells::paste_at;
-use cells::same;
+use cells::same_by;
 
 pub const LINE_WIDTH: usize = 56;
 
 pub const KEY_WIDTH: usize = 49;
+
+// Where most keys of lines differ: the last eight bytes of the reference.
+pub const KEY_TELLS: usize = 26;
 
 pub const MARK_AT: usize = 51;
 
@@ -25,6 +27,9 @@ pub const ARRIVED_AT: usize = 52;
 pub const SLIP_WIDTH: usize = 50;
 
 pub const SLIP_KEY_WIDTH: usize = 46;
+
+// Where most keys of slips differ: the end of the slip number, and the position.
+pub const SLIP_KEY_TELLS: usize = 38;
 
 pub const SLIP_COPIES_AT: usize = 48;
 
@@ -77,7 +82,8 @@ pub fn key_is(lines: &[u8], i: usize, key: &[u8]) -> bool
     ensures { λ r. ⌜ r ≡ keyIs (now (lines .entry)) (now (key .entry)) i ⌝ }
 {
     let at = LINE_WIDTH * i;
-    same(part(lines, at, at + KEY_WIDTH), key)
+    let end = at + KEY_WIDTH;
+    same_by(&lines[at..end], key, KEY_TELLS)
 }
 
 // Whether Q, the mark and A are within their bounds.
@@ -98,7 +104,8 @@ pub fn slip_is(slips: &[u8], j: usize, key: &[u8]) -> bool
     ensures { λ r. ⌜ r ≡ slipIs (now (slips .entry)) (now (key .entry)) j ⌝ }
 {
     let at = SLIP_WIDTH * j;
-    same(part(slips, at, at + SLIP_KEY_WIDTH), key)
+    let end = at + SLIP_KEY_WIDTH;
+    same_by(&slips[at..end], key, SLIP_KEY_TELLS)
 }
 
 // The index of a slip's line.

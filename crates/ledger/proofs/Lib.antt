@@ -3,6 +3,7 @@ pub mod Lists
 pub mod Tests
 pub mod Parts
 pub mod Histories
+pub mod Gives
 pub mod Sums
 pub mod Lines
 pub mod Slips

@@ -34,6 +34,7 @@ pub enum Verdict {
 }
 
 // The answer number and place of document 01, and the number of optional fields.
+#[repr(C)]
 pub struct Checked {
     pub answer: u64,
     pub place: usize,

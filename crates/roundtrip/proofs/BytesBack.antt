@@ -11,6 +11,8 @@ use lib.ListN.{length, take, replicate}
 use lib.Seq.{slice, take-all, length-slice}
 use Rattle.cells.specs.Bytes.{within, all}
 use Rattle.cells.proofs.Bools.{split, and-left, and-right}
+use Rattle.cells.proofs.Parts.{parts-join}
+use Rattle.cells.proofs.Lists.{all-weaker, all-take, all-drop}
 use Rattle.rules.specs.Class.{belongs, allOf, ofClass, digit}
 use Rattle.rules.specs.Number.{numberFrom, number}
 use Rattle.rules.specs.Day.{realDay, dayOf, dayWidth, isDay}
@@ -22,7 +24,7 @@ use Rattle.rules.proofs.Digits.{width}
 use Rattle.rules.proofs.Fits.{at-most}
 use Rattle.writing.specs.Digits.{digitsOf, numberBytes}
 use Rattle.writing.specs.Typed.{dayDigits, dayBytes, isNoDay, deliveryDayBytes, expectedBytes}
-use Rattle.roundtrip.proofs.Sequences.{parts-join, all-one, all-weaker, all-take, all-drop}
+use Rattle.roundtrip.proofs.Sequences.{all-one}
 use Rattle.roundtrip.proofs.NumbersBack.{digits-back}
 use Rattle.roundtrip.proofs.ValuesBack.{first-year, on-back}
 

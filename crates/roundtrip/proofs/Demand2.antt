@@ -6,10 +6,11 @@ use Prim.Native.Nat.{ℕ, _+_, _≤_}
 use lib.ListN.{length, take, drop, take-append-drop}
 use lib.Seq.{slice}
 use Rattle.cells.specs.Bytes.{pick, bytes, all, same}
-use Rattle.cells.proofs.Lists.{same-refl}
+use Rattle.cells.proofs.Lists.{same-refl, all-take}
 use Rattle.rules.specs.Class.{belongs, ofClass}
 use Rattle.rules.specs.Day.{dayWidth}
 use Rattle.rules.specs.declared.class.Class.the-variants.{Allowed, Zero}
+use Rattle.rules.proofs.Runs.{run-all}
 use Rattle.record.specs.Layout.{dateStart, layout, total, fixedWidth, kindOf}
 use Rattle.record.specs.Answers.{checkedOf}
 use Rattle.record.specs.Values.{orderOf, deliveryOf, reportOf}
@@ -29,7 +30,6 @@ use Rattle.reader.proofs.Fitting.{fitting, name-of, fits-known, fits-long}
 use Rattle.writing.specs.Write.{write}
 use Rattle.writing.specs.Typed.{joined, orderFields, deliveryFields, reportFields, orderBytes, deliveryBytes, reportBytes}
 use Rattle.roundtrip.specs.Demand2.{ReadsBack, WritesBack, OrderShaped, DeliveryShaped, ReportShaped, OrderReadsBack, DeliveryReadsBack, ReportReadsBack}
-use Rattle.roundtrip.proofs.Sequences.{all-take, run-all}
 use Rattle.roundtrip.proofs.Typed.{order-values, delivery-values, report-values, order-bytes-of, delivery-bytes-of, report-bytes-of}
 use Rattle.roundtrip.proofs.ReadAfterWrite.{read-after-write}
 use Rattle.roundtrip.proofs.WriteAfterRead.{verdict-fits, write-after-read}

@@ -11,7 +11,7 @@ use Rattle.rules.specs.Number.{numberFrom, number}
 use Rattle.rules.specs.declared.class.Class.the-variants.{Digit}
 use Rattle.writing.specs.Digits.{digitsOf}
 use Rattle.cells.specs.Bytes.{all}
-use Rattle.roundtrip.proofs.Sequences.{all-append}
+use Rattle.cells.proofs.Lists.{all-append}
 
 -- the last digit written is a digit
 digit-byte : (n : ℕ) → digit (48 + n % 10) ≡ true

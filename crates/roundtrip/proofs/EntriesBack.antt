@@ -8,6 +8,7 @@ use borrow.Author.Tests.{lt-ltb, le-leb}
 use lib.ListN.{length, drop, length-drop}
 use lib.Seq.{drop-drop}
 use Rattle.cells.specs.Bytes.{all}
+use Rattle.cells.proofs.Lists.{all-take, all-drop}
 use Rattle.rules.specs.Class.{allowed, belongs}
 use Rattle.rules.specs.declared.class.Class.the-variants.{Allowed}
 use Rattle.record.specs.Contents.{contentKept, groupKept}
@@ -19,7 +20,7 @@ use Rattle.reader.proofs.Fitting.{passed}
 use Rattle.writing.specs.Write.{entryOf, entries, contentIn, optionalIn, optionalOf, contentByte, inside, writable, nextId, entryKept, fieldsJudged}
 use Rattle.writing.specs.declared.answer.Verdict.the-variants.{Fits as Written}
 use Rattle.writing.specs.declared.entries.Entry.{Entry}
-use Rattle.roundtrip.proofs.Sequences.{all-take, all-drop, all-front, all-both}
+use Rattle.roundtrip.proofs.Sequences.{all-front, all-both}
 use Rattle.roundtrip.proofs.Texts.{last-id}
 use Rattle.roundtrip.proofs.FieldsBack.{Standing, Fields}
 

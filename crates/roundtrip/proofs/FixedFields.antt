@@ -10,7 +10,8 @@ use lib.ListN.{length, getD, take, drop}
 use lib.Seq.{slice, take-nil, take-at, drop-at, length-slice}
 use Rattle.cells.specs.Bytes.{all}
 use Rattle.cells.proofs.Bools.{split, and-left, and-right}
-use Rattle.cells.proofs.Parts.{slice-drop, nothing}
+use Rattle.cells.proofs.Parts.{slice-drop, nothing, parts-join}
+use Rattle.cells.proofs.Lists.{all-append}
 use Rattle.rules.specs.Rule.{keeps}
 use Rattle.record.specs.Layout.{noField, layout, total, fixedWidth, startOf, firstBroken}
 use Rattle.record.specs.Values.{fieldBytes}
@@ -18,7 +19,6 @@ use Rattle.record.specs.declared.layout.Field.{Field}
 use Rattle.record.specs.declared.layout.Kind.{Kind}
 use Rattle.record.proofs.Layouts.{start-most, start-next}
 use Rattle.writing.specs.Typed.{joined}
-use Rattle.roundtrip.proofs.Sequences.{parts-join, all-append}
 
 -- how long the fields of a layout are
 abbrev pub sizes : List Field → List ℕ

@@ -6,8 +6,10 @@ use native.Mathlib.Omega.{arith}
 use lib.ListN.{length, drop, length-append}
 use lib.Seq.{take-at, drop-at, take-append-seam}
 use Rattle.cells.specs.Bytes.{run}
+use Rattle.cells.proofs.Lists.{all-append}
 use Rattle.rules.specs.Class.{belongs}
 use Rattle.rules.specs.declared.class.Class.the-variants.{Allowed}
+use Rattle.rules.proofs.Runs.{run-all, all-whole}
 use Rattle.record.specs.Layout.{mostFields, fixedWidth, kindOf}
 use Rattle.record.specs.Contents.{noMember}
 use Rattle.record.specs.Fields.{headWidth, Optional, walk, judge}
@@ -23,7 +25,6 @@ use Rattle.writing.specs.declared.answer.Verdict.{Verdict}
 use Rattle.writing.specs.declared.answer.Verdict.the-variants.{Refused, Fits as Written}
 use Rattle.writing.proofs.Fitting.{Fitting, fitting}
 use Rattle.roundtrip.specs.Demand2.{written, ReadsBack}
-use Rattle.roundtrip.proofs.Sequences.{all-append, run-all, all-whole}
 use Rattle.roundtrip.proofs.Texts.{AllWritable, text-least, text-allowed, text-walked, text-fields}
 use Rattle.roundtrip.proofs.Fronts.{date-inside, kind-front, broken-front}
 use Rattle.roundtrip.proofs.Fixed.{faultless-kept, faultless-allowed}

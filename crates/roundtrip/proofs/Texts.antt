@@ -10,6 +10,7 @@ use lib.ListN.{length, drop, length-append}
 use lib.Seq.{slice, take-at, drop-at, drop-drop, take-append-seam, drop-append-seam}
 use Rattle.cells.specs.Bytes.{bytes, all, run}
 use Rattle.cells.proofs.Bools.{and-left, and-right}
+use Rattle.cells.proofs.Lists.{all-weaker, all-append}
 use Rattle.rules.specs.Class.{allowed, belongs, allOf, ofClass}
 use Rattle.rules.specs.Number.{numberFrom}
 use Rattle.rules.specs.declared.class.Class.the-variants.{Allowed, Digit}
@@ -20,7 +21,7 @@ use Rattle.record.specs.declared.answer.Verdict.the-variants.{Fits}
 use Rattle.writing.specs.Digits.{digitsOf}
 use Rattle.writing.specs.Write.{contentByte, fieldText, optionalText}
 use Rattle.writing.proofs.Decimals.{digits-length}
-use Rattle.roundtrip.proofs.Sequences.{all-weaker, all-append, run-append}
+use Rattle.roundtrip.proofs.Sequences.{run-append}
 use Rattle.roundtrip.proofs.DigitsBack.{digits-all, number-of-digits}
 
 -- a field that may be written: an ID below 9999, and bytes that may stand in a content

@@ -10,8 +10,10 @@ use lib.ListN.{length, take, drop, length-append, take-append-drop}
 use lib.Seq.{length-take-le}
 use Rattle.cells.specs.Bytes.{all}
 use Rattle.cells.proofs.Bools.{split}
+use Rattle.cells.proofs.Lists.{all-take}
 use Rattle.rules.specs.Class.{belongs}
 use Rattle.rules.specs.declared.class.Class.the-variants.{Allowed}
+use Rattle.rules.proofs.Runs.{run-all, all-whole}
 use Rattle.record.specs.Layout.{mostBytes, mostFields, layout, fixedWidth, kindOf, firstBroken}
 use Rattle.record.specs.Contents.{noMember}
 use Rattle.record.specs.Answers.{refusalNumber, checkedOf}
@@ -30,7 +32,6 @@ use Rattle.writing.specs.Write.{entries, optionalOf, fieldsJudged, recordText, 
 use Rattle.writing.specs.declared.answer.Verdict.the-variants.{Fits as Written}
 use Rattle.writing.proofs.Stages.{fixed-fits}
 use Rattle.roundtrip.specs.Demand2.{WritesBack}
-use Rattle.roundtrip.proofs.Sequences.{run-all, all-whole, all-take}
 use Rattle.roundtrip.proofs.Fronts.{date-inside, kind-front, broken-front}
 use Rattle.roundtrip.proofs.Fixed.{faultless}
 use Rattle.roundtrip.proofs.FieldsBack.{Fields, walked-fields, text-back}

@@ -1,12 +1,12 @@
 -- Tests over a list, and how many bytes at its front pass them.
-use mathlib.Core.Path.{_≡_, refl, sym}
+use mathlib.Core.Path.{_≡_, _∙_, refl, sym}
 use mathlib.Core.Bool.{Bool, true, false}
 use mathlib.Core.List.{List, [], _∷_}
 use Prim.Native.Nat.{ℕ, zero, suc, _+_, _≤_, _<_, compare·suc-suc}
 use native.Mathlib.Nat.{not-suc-le-zero, le-of-suc-le-suc}
 use native.Mathlib.Numerals.{add-one}
 use native.Mathlib.Omega.{arith}
-use borrow.Author.Tests.{ne-eqb}
+use borrow.Author.Tests.{eqb-true, eq-eqb, ne-eqb}
 use lib.Dec.{eqb}
 use lib.ListN.{length, getD, drop, drop-of-length-le}
 use lib.Seq.{drop-cons}
@@ -30,6 +30,13 @@ module _ (p : ℕ → Bool) where
       let ih = all-run xs in
       split (p x) (λ e. rw (e, compare·suc-suc) ih)
       (λ e. rw e (sym (ne-eqb 0 (suc (length xs)) (λ q. omega arith))))
+
+  -- a run that is the whole list says that it holds at each byte, and the other way round
+  pub run-all : (s : List ℕ) → run p s ≡ length s → all p s ≡ true
+  run-all s e = all-run s ∙ eq-eqb (run p s) (length s) e
+
+  pub all-whole : (s : List ℕ) → all p s ≡ true → run p s ≡ length s
+  all-whole s e = eqb-true (run p s) (length s) (sym (all-run s) ∙ e)
 
   -- the byte at place i passes: the run goes on past it
   pub run-on : (s : List ℕ) (i : ℕ) → i < length s → p (getD s i 0) ≡ true → i + run p (drop i s) ≡ i + 1 + run p (drop (i + 1) s)

@@ -1,3 +1,4 @@
 pub mod Booked
+pub mod Loaded
 pub mod Sampled
 pub mod Written

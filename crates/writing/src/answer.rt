@@ -23,6 +23,7 @@ pub enum Verdict {
 }
 
 // The answer number and place of document 01, and the number of bytes written.
+#[repr(C)]
 pub struct Written {
     pub answer: u64,
     pub place: usize,

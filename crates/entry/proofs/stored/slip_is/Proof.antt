@@ -1,4 +1,7 @@
 -- `entry::stored::slip_is` meets its contract: the key's part is compared in place.
+use Prim.Native.Nat.{_+_, _*_}
+use native.Mathlib.Omega.{arith}
+use Rattle.cells.proofs.Parts.{part-is}
 use Rattle.entry.specs.Stored.{slipIs, slipKeyAt}
 use borrow.Author.Needs.{needs}
 use Rattle.entry.proofs.stored.slip_is.Statement.{statement}
@@ -7,18 +10,35 @@ use Rattle.entry.proofs.stored.slip_is.Tie as tie
 mul-at : tie.Need-mul-at
 mul-at c = search needs
 
-add-part : tie.Need-add-part
-add-part c = search needs
+add-end : tie.Need-add-end
+add-end c = search needs
 
-part-requires : tie.Need-part-requires
-part-requires c κs = search needs
+sub-same-by : tie.Need-sub-same-by
+sub-same-by c = search needs
 
-same-requires : tie.Need-same-requires
-same-requires c κs = search needs
+part-same-by-start : tie.Need-part-same-by-start
+part-same-by-start c = search needs
+
+part-same-by-end : tie.Need-part-same-by-end
+part-same-by-end c = search needs
+
+same-by-requires : tie.Need-same-by-requires
+same-by-requires c κs = search needs
 
 returns : tie.Need-returns
 unfolding slipIs slipKeyAt
-returns c = rw (c .same .ensures, c .before .part .ensures)
+returns c =
+    let a = c .before .before .before .before .args in
+    rw (← part-is (50 * a .j) (50 * a .j + 46) (a .slips .now) (omega arith)) (c .same-by .ensures)
 
 pub slip-is-spec : {M : Type 1} → statement M
-slip-is-spec = tie.close (tie.spec mul-at add-part part-requires same-requires returns)
+slip-is-spec =
+    tie.close
+    (tie.spec
+    mul-at
+    add-end
+    sub-same-by
+    part-same-by-start
+    part-same-by-end
+    same-by-requires
+    returns)

@@ -1,0 +1,97 @@
+-- Lines that are bytes stay bytes, whatever is booked.
+use mathlib.Core.Path.{_≡_, refl}
+use mathlib.Core.Bool.{Bool, true}
+use mathlib.Core.List.{List, [], _∷_, _++_}
+use Prim.Native.Nat.{ℕ, zero, suc, _+_, _*_, _%_, _/_}
+use native.Mathlib.Omega.{arith}
+use borrow.Author.Tests.{lt-ltb, leb-true}
+use lib.Dec.{ltb, leb}
+use lib.ListN.{set}
+use lib.Seq.{sets}
+use Rattle.cells.specs.Bytes.{all, within}
+use Rattle.cells.specs.Little.{leBytes}
+use Rattle.cells.proofs.Bools.{split, and-left, and-right}
+use Rattle.cells.proofs.Lists.{all-weaker, all-append}
+use Rattle.rules.specs.Class.{belongs}
+use Rattle.rules.specs.declared.class.Class.the-variants.{Allowed}
+use Rattle.record.specs.declared.layout.Kind.{Kind}
+use Rattle.record.specs.declared.layout.Kind.the-variants.{Order, Goods, Closing, Report}
+use Rattle.reader.proofs.Fitting.{Fitting}
+use Rattle.entry.specs.Line.{markByte}
+use Rattle.entry.specs.Stored.{lineWidth, keyWidth, lineBytes, putLine, addLine}
+use Rattle.entry.specs.declared.line.Mark.{Mark}
+use Rattle.entry.specs.declared.line.Mark.the-variants.{Unmarked, Held, Dropped}
+use Rattle.entry.specs.declared.line.Line.{Line}
+use Rattle.book.specs.Lent.{Lent}
+use Rattle.book.specs.Booking.{keyFields, lineKey, lineAfter, lentAfter}
+use Rattle.balance.specs.Demand3.{fresh}
+use Rattle.restored.specs.Restored.{Bytes}
+use Rattle.restored.specs.Bookings.{bookOf, StaysBytes}
+use Rattle.restored.proofs.Keys.{all-fields, fit-allowed}
+use Rattle.restored.proofs.Given.{all-given}
+
+-- where each byte of a list passes a test, and what is stored in it does, each byte still passes
+module _ (p : ℕ → Bool) where
+  all-set : (s : List ℕ) (i x : ℕ) → all p s ≡ true → p x ≡ true → all p (set s i x) ≡ true
+  unfolding all
+  all-set [] i x e f = refl
+  all-set (y ∷ ys) zero x e f = rw f (and-right (p y) (all p ys) e)
+  all-set (y ∷ ys) (suc i) x e f = rw (and-left (p y) (all p ys) e) (all-set ys i x (and-right (p y) (all p ys) e) f)
+
+  -- so for a run
+  all-sets : (s : List ℕ) (i : ℕ) (xs : List ℕ) → all p s ≡ true → all p xs ≡ true → all p (sets s i xs) ≡ true
+  unfolding all
+  all-sets s i [] e f = e
+  all-sets s i (x ∷ xs) e f = all-sets (set s i x) (suc i) xs (all-set s i x e (and-left (p x) (all p xs) f)) (and-right (p x) (all p xs) f)
+
+-- an allowed byte is a byte
+allowed-byte : (x : ℕ) → belongs Allowed x ≡ true → ltb x 256 ≡ true
+unfolding belongs
+allowed-byte x e =
+    split (within 32 126 x)
+    (λ h. let l = leb-true x 126 (and-right (leb 32 x) (leb x 126) h) in lt-ltb x 256 (omega arith))
+    (λ h. let l = leb-true x 255 (and-right (leb 160 x) (leb x 255) (rw h at e)) in lt-ltb x 256 (omega arith))
+
+-- a number's bytes are
+le-bytes : (w n : ℕ) → Bytes (leBytes w n)
+unfolding leBytes all
+le-bytes zero n = refl
+le-bytes (suc w) n = rw (lt-ltb (n % 256) 256 (omega arith)) (le-bytes w (n / 256))
+
+-- so is a mark's byte
+mark-is-byte : (m : Mark) → ltb (markByte m) 256 ≡ true
+unfolding markByte
+mark-is-byte Unmarked = refl
+mark-is-byte Held = refl
+mark-is-byte Dropped = refl
+
+-- and a line's figures
+line-bytes : (l : Line) → Bytes (lineBytes l)
+unfolding lineBytes all
+line-bytes l =
+    rw (all-append (λ b. ltb b 256) (leBytes 2 (l .ordered)) (markByte (l .mark) ∷ leBytes 4 (l .arrived)), le-bytes 2 (l .ordered), mark-is-byte (l .mark))
+    (le-bytes 4 (l .arrived))
+
+-- a line's figures replaced
+put-bytes : (ls : List ℕ) (i : ℕ) (l : Line) → Bytes ls → Bytes (putLine ls i l)
+unfolding putLine
+put-bytes ls i l e = all-sets (λ b. ltb b 256) ls (lineWidth * i + keyWidth) (lineBytes l) e (line-bytes l)
+
+-- a record of any kind entered
+kind-bytes : (k : Kind) (s : List ℕ) (b : Lent) (i n : ℕ) → Fitting k s n → Bytes (b .lines) → Bytes (lentAfter k s b i .lines)
+unfolding lentAfter addLine lineKey
+kind-bytes Order s b i n f e =
+    all-sets (λ b. ltb b 256) (b .lines) (lineWidth * i) (lineKey Order s ++ lineBytes (lineAfter Order s b i)) e
+    (rw (all-append (λ b. ltb b 256) (lineKey Order s) (lineBytes (lineAfter Order s b i)), all-fields (λ b. ltb b 256) Order (keyFields Order) s (all-weaker (belongs Allowed) (λ b. ltb b 256) allowed-byte s (fit-allowed Order s n f)))
+    (line-bytes (lineAfter Order s b i)))
+kind-bytes Goods s b i n f e = put-bytes (b .lines) i (lineAfter Goods s b i) e
+kind-bytes Closing s b i n f e = e
+kind-bytes Report s b i n f e = put-bytes (b .lines) i (lineAfter Report s b i) e
+
+-- any records given keep lines that are bytes so
+pub stays-bytes : StaysBytes
+stays-bytes g records e = all-given (λ (b : Lent). Bytes (b .lines)) (λ k s b i n f q. kind-bytes k s b i n f) records g e
+
+-- also from rooms with no used entries
+pub bookings-bytes : (lines slips : List ℕ) (records : List (List ℕ)) → Bytes lines → Bytes (bookOf lines slips records .lines)
+bookings-bytes lines slips records e = stays-bytes (fresh lines slips) records e

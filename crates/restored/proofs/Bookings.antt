@@ -1,0 +1,105 @@
+-- A book made by bookings from empty can be saved and loaded.
+use mathlib.Core.Path.{_≡_, refl}
+use mathlib.Core.Bool.{true, false}
+use mathlib.Core.List.{List}
+use Prim.Native.Nat.{ℕ, _≤_}
+use native.Mathlib.Omega.{arith}
+use lib.ListN.{length}
+use borrow.Author.Tests.{eqb-false, le-leb}
+use Rattle.record.specs.declared.layout.Kind.{Kind}
+use Rattle.record.specs.declared.layout.Kind.the-variants.{Order, Goods, Closing, Report}
+use Rattle.reader.proofs.Fitting.{Fitting}
+use Rattle.book.specs.Lent.{Lent, usedLines, usedSlips, allFrom, sound, findLine, findSlip}
+use Rattle.book.specs.Booking.{lineKey, slipKey, copiesIn, markIn, nothingToBook, noCopies, noReference, bookJudged, fitJudged, lineAfter, lentAfter}
+use Rattle.book.specs.declared.answer.Refused.the-variants.{NothingToBook, NoCopies, NoReference}
+use Rattle.book.specs.declared.answer.Verdict.the-variants.{Fits}
+use Rattle.book.proofs.Fields.{order-key, slip-key-width, order-copies, goods-copies}
+use Rattle.balance.specs.Demand3.{fresh, giveAll}
+use Rattle.balance.proofs.Followed.{passed, order-fits, delivery-fits, report-fits}
+use Rattle.save.specs.Entries.{linesKept, slipsKept, sumsKept, entriesKept}
+use Rattle.save.specs.Saved.{savedWidth, save}
+use Rattle.restored.specs.Restored.{Orderly}
+use Rattle.restored.specs.Bookings.{bookOf, BookingsOrderly, BookSurvives, StaysOrderly}
+use Rattle.restored.proofs.Keys.{order-key-kept, slip-key-kept, goods-parties}
+use Rattle.restored.proofs.Ordered.{Ordered, orderly}
+use Rattle.restored.proofs.Opened.{ordered}
+use Rattle.restored.proofs.Entered.{report-ordered, order-ordered, goods-ordered}
+use Rattle.restored.proofs.Given.{all-given}
+use Rattle.restored.proofs.BookedBytes.{bookings-bytes}
+use Rattle.restored.proofs.Restored.{load-of-save}
+
+-- a record fit to book: none of 13, 11 and 12 stands against it, and it fits the book
+record Fit (k : Kind) (s : List ℕ) (b : Lent) (i : ℕ) : Type 0 where
+  something : nothingToBook k s ≡ false
+  copies : noCopies k s ≡ false
+  named : noReference k s ≡ false
+  fits : bookJudged k s b ≡ Fits i
+
+-- the verdict that it fits says so
+fit-so : (k : Kind) (s : List ℕ) (b : Lent) (i : ℕ) → fitJudged k s b ≡ Fits i → Fit k s b i
+unfolding fitJudged
+fit-so k s b i e =
+    let one = passed (nothingToBook k s) NothingToBook _ i e in
+    let two = passed (noCopies k s) NoCopies _ i (one .1) in
+    let three = passed (noReference k s) NoReference _ i (two .1) in
+    record { something = one .0; copies = two .0; named = three .0; fits = three .1 }
+
+-- a record that fits, entered, keeps the book so
+module _ (s : List ℕ) (b : Lent) (i n : ℕ) (o : Ordered b) where
+  -- an order
+  order-entered : Fitting Order s n → Fit Order s b i → Ordered (lentAfter Order s b i)
+  unfolding lentAfter lineAfter noCopies bookJudged
+  order-entered fit e =
+      let q = order-fits b i (findLine b (lineKey Order s)) (e .fits) in
+      let ne = eqb-false (copiesIn Order s) 0 (e .copies) in
+      let d = q .1 .1 in
+      rw d (order-ordered b (lineKey Order s) (copiesIn Order s) o (order-key s n fit) (omega arith) (order-copies s n fit) (q .0) (q .1 .0) (order-key-kept s n fit (e .named)))
+
+  -- a delivery
+  goods-entered : Fitting Goods s n → Fit Goods s b i → Ordered (lentAfter Goods s b i)
+  unfolding lentAfter lineAfter noCopies bookJudged usedSlips
+  goods-entered fit e =
+      let q = delivery-fits b i (lineKey Goods s) (copiesIn Goods s) (findSlip b (slipKey s)) (e .fits) in
+      let ne = eqb-false (copiesIn Goods s) 0 (e .copies) in
+      goods-ordered b (lineKey Goods s) (slipKey s) (copiesIn Goods s) i o (slip-key-width s n fit) (omega arith) (goods-copies s n fit) (q .0) (q .1 .0) (q .1 .1 .0) (q .1 .1 .1) (slip-key-kept s n fit (e .something)) (goods-parties s n fit)
+
+  -- a report
+  report-entered : Fit Report s b i → Ordered (lentAfter Report s b i)
+  unfolding lentAfter lineAfter bookJudged
+  report-entered e = report-ordered b (lineKey Report s) (markIn s) i o (report-fits b i (findLine b (lineKey Report s)) (e .fits))
+
+  -- a record of any kind; a closing record enters nothing
+  kind-entered : (k : Kind) → Fitting k s n → Fit k s b i → Ordered (lentAfter k s b i)
+  unfolding lentAfter
+  kind-entered Order fit e = order-entered fit e
+  kind-entered Goods fit e = goods-entered fit e
+  kind-entered Closing fit e = o
+  kind-entered Report fit e = report-entered e
+
+-- bookings keep an orderly book so
+pub stays-orderly : StaysOrderly
+stays-orderly g records o two =
+    let b : Lent = giveAll g records .book in
+    let kept : Ordered b = all-given Ordered (λ k s b i n f q o. kind-entered s b i n o k f (fit-so k s b i q)) records g (ordered (g .book) o two) in
+    (orderly b kept, kept .kept .counts)
+
+-- a sound book with no used entries is orderly
+fresh-orderly : (lines slips : List ℕ) → sound (fresh lines slips .book) ≡ true → Orderly (fresh lines slips .book)
+unfolding usedLines usedSlips entriesKept linesKept slipsKept sumsKept allFrom
+fresh-orderly lines slips e = record { is-sound = e; entries = refl; sums = λ i h. absurd (omega arith) }
+
+-- so a book made by bookings is
+pub bookings-orderly : BookingsOrderly
+bookings-orderly lines slips records e = stays-orderly (fresh lines slips) records (fresh-orderly lines slips e) refl .0
+
+-- a save of a sound book is done where the output is large enough
+save-done : (b : Lent) (out : List ℕ) → sound b ≡ true → savedWidth (usedLines b) (usedSlips b) ≤ length out → save b out .said .answer ≡ 0
+unfolding save
+save-done b out e h = rw (e, le-leb (savedWidth (usedLines b) (usedSlips b)) (length out) h)
+
+-- the save of a book made by bookings loads, and gives the same book
+pub book-survives : BookSurvives
+book-survives lines slips records c out e bytes holds room =
+    let b : Lent = bookOf lines slips records in
+    let o : Orderly b = bookings-orderly lines slips records e in
+    load-of-save b c out o (bookings-bytes lines slips records bytes) holds (save-done b out (o .is-sound) room)

@@ -1,0 +1,1 @@
+// Theorems about saving and loading. No code.

@@ -1,0 +1,41 @@
+-- The cases of saving and loading hold of the definitions, by computation.
+use mathlib.Core.Path.{_≡_, refl}
+use mathlib.Core.Bool.{true, false}
+use mathlib.Core.List.{_++_}
+use lib.ListN.{replicate}
+use Rattle.cells.specs.Bytes.{all, any, run, same, among}
+use Rattle.cells.specs.Little.{leAt, leBytes}
+use Rattle.rules.specs.Class.{belongs, allOf, ofClass, padded, named}
+use Rattle.rules.specs.Number.{numberFrom}
+use Rattle.rules.specs.Day.{leap, monthDays, realDay, dayOf, isDay}
+use Rattle.rules.specs.Article.{checkValue, weighted, gs1, isbn, seriesVolume, article}
+use Rattle.rules.specs.Rule.{texts, dayCount, expected, keeps}
+use Rattle.record.specs.Layout.{layout, total, fixedWidth, startOf, kindOf, firstBroken}
+use Rattle.record.specs.Contents.{contents, isIn, ruleIn, contentRule, guardedIds, guarded, contentKept, groups, firstOf, nextIn, previousIn, groupWith, nextMember, previousMember, isWanted, groupKept}
+use Rattle.record.specs.Answers.{refusalNumber, refusalPlace, checkedOf, _then_}
+use Rattle.record.specs.Fields.{headOf, idIn, idOf, contentWidth, contentOf, fieldWidth, afterField, onHead, atField, walk, judge}
+use Rattle.record.specs.Values.{fieldBytes}
+use Rattle.record.specs.Read.{bytesJudged, fixedJudged, afterWalk, optionalJudged, kindJudged, judged}
+use Rattle.entry.specs.Line.{markByte, withMark, withArrivals, openOf, letGoOf, filledOf, figuresOf}
+use Rattle.entry.specs.Stored.{lineAt, lineBytes, putLine, addLine, keyAt, keyIs, lineSound, slipKeyAt, slipIs, slipLineAt, slipCopiesAt, addSlip, slipSound}
+use Rattle.book.specs.Lent.{usedLines, usedSlips, lineRoom, slipRoom, roomSound, firstFrom, allFrom, sound, findLine, findSlip}
+use Rattle.book.specs.Booking.{refusedNumber, refusedPlace, fieldsAt, keyFields, lineKey, slipKey, copiesIn, nothingToBook, noCopies, noReference, markIn, orderJudged, slipJudged, arrivalJudged, goodsJudged, deliveryJudged, reportJudged, bookJudged, fitJudged, newLine, lineAfter, lentAfter, refusedAs, doneAs, enteredAs, settled, bookAs, bookKind, bookRead, book}
+use Rattle.book.specs.Cases.{roomy}
+use Rattle.save.specs.Entries.{goodsFields, keyKept, lineKept, partiesAgree, lineIndex, slipCopies, slipKept, isFirst, sumFrom, copiesOn, arrivedOn, linesKept, slipsKept, sumsKept, entriesKept}
+use Rattle.save.specs.Saved.{refusedNumber as saveNumber, joinedFrom, lineBodyAt, slipBodyAt, lineEntries, slipEntries, endEntry, savedForm, savedWidth, notSaved, save, statedLines, statedSlips, lineIn, slipIn, allOfKind, inForm, isSave}
+use Rattle.save.specs.Load.{roomsSound, loadedLine, lentLoaded, notLoaded, load}
+use Rattle.save.specs.Cases.{loads, firstWrong, day, daySaved, manySlips}
+
+pub record Computed : Type 0 where
+  pub loading : firstWrong 1 loads ≡ 0
+  pub saving : save day (replicate 120 7) .out ≡ daySaved ++ replicate 11 7
+  pub saying : save day (replicate 109 7) .said ≡ record { answer = 0; place = 0; length = 109 }
+  pub small : save day (replicate 108 7) .said ≡ record { answer = 23; place = 0; length = 0 }
+  pub back : load daySaved (roomy 2 2) .lent ≡ day
+  -- 9,999,999 copies on a line, and one more
+  pub most : sumsKept 1 1001 (manySlips 999) ≡ true
+  pub over : sumsKept 1 1001 (manySlips 1000) ≡ false
+
+pub computed : Computed
+unfolding all any run same among leAt leBytes belongs allOf ofClass padded named numberFrom leap monthDays realDay dayOf isDay checkValue weighted gs1 isbn seriesVolume article texts dayCount expected keeps layout total fixedWidth startOf kindOf firstBroken contents isIn ruleIn contentRule guardedIds guarded contentKept groups firstOf nextIn previousIn groupWith nextMember previousMember isWanted groupKept refusalNumber refusalPlace checkedOf _then_ headOf idIn idOf contentWidth contentOf fieldWidth afterField onHead atField walk judge fieldBytes bytesJudged fixedJudged afterWalk optionalJudged kindJudged judged markByte withMark withArrivals openOf letGoOf filledOf figuresOf lineAt lineBytes putLine addLine keyAt keyIs lineSound slipKeyAt slipIs slipLineAt slipCopiesAt addSlip slipSound usedLines usedSlips lineRoom slipRoom roomSound firstFrom allFrom sound findLine findSlip refusedNumber refusedPlace fieldsAt keyFields lineKey slipKey copiesIn nothingToBook noCopies noReference markIn orderJudged slipJudged arrivalJudged goodsJudged deliveryJudged reportJudged bookJudged fitJudged newLine lineAfter lentAfter refusedAs doneAs enteredAs settled bookAs bookKind bookRead book goodsFields keyKept lineKept partiesAgree lineIndex slipCopies slipKept isFirst sumFrom copiesOn arrivedOn linesKept slipsKept sumsKept entriesKept saveNumber joinedFrom lineBodyAt slipBodyAt lineEntries slipEntries endEntry savedForm savedWidth notSaved save statedLines statedSlips lineIn slipIn allOfKind inForm isSave roomsSound loadedLine lentLoaded notLoaded load loads firstWrong daySaved
+computed = record { loading = refl; saving = refl; saying = refl; small = refl; back = refl; most = refl; over = refl }

@@ -1,0 +1,7 @@
+pub mod Bodies
+pub mod Firsts
+pub mod Forms
+pub mod Joined
+pub mod Keys
+pub mod Sums
+pub mod Within

@@ -1,0 +1,101 @@
+-- `save::entries::is_slip_kept` meets its contract, test by test: its key, its copies, its line, whose parties it has.
+use mathlib.Core.Path.{_≡_, _∙_, ap}
+use borrow.Author.Tests.{lt-ltb, le-ltb}
+use lib.ListN.{take}
+use Rattle.cells.specs.Bytes.{within}
+use Rattle.cells.proofs.Bools.{is-not, is-so}
+use Rattle.entry.specs.Stored.{slipKeyWidth, mostCopies}
+use Rattle.book.specs.Booking.{slipFields}
+use Rattle.save.specs.Entries.{slipNumberAt, keyKept, lineIndex, slipCopies, slipKept}
+use borrow.Author.Needs.{needs}
+use Rattle.save.proofs.entries.is_slip_kept.Statement.{statement}
+use Rattle.save.proofs.entries.is_slip_kept.Tie as tie
+
+-- the key is judged as a slip's
+key-here : (c : tie.After-is-key) → c .is-key .result ≡ keyKept slipFields slipNumberAt (take slipKeyWidth (c .before .before .before .before .before .args .body .now))
+key-here c = c .is-key .ensures ∙ rw (c .before .part .ensures)
+
+-- so are the copies
+copies-here : (c : tie.After-get2)
+    → within 1 mostCopies (c .get2 .result) ≡ within 1 mostCopies (slipCopies (c .before .before .before .before .before .before .before .args .body .now))
+unfolding slipCopies
+copies-here c = ap (within 1 mostCopies) (c .get2 .ensures .is)
+
+-- the number read is the index of its line
+index-here : (c : tie.After-get22) → c .get22 .result ≡ lineIndex (c .before .before .before .before .before .before .before .before .before .args .body .now)
+unfolding lineIndex
+index-here c = c .get22 .ensures .is
+
+slice-aggregate-is-key : tie.Need-slice-aggregate-is-key
+slice-aggregate-is-key c = search needs
+
+part-requires : tie.Need-part-requires
+part-requires c κs = search needs
+
+is-key-requires : tie.Need-is-key-requires
+is-key-requires c κs = search needs
+
+returns : tie.Need-returns
+unfolding slipKept
+returns c = rw (is-not (key-here (c .before)) (c .if1 .taken))
+
+get2-requires : tie.Need-get2-requires
+get2-requires c κs = search needs
+
+returns-2 : tie.Need-returns-2
+unfolding slipKept
+returns-2 c =
+    let d = c .before .before in
+    rw (is-so (key-here (d .before)) (d .if1 .left), is-not (copies-here (c .before)) (c .if2 .taken))
+
+get2-requires-2 : tie.Need-get2-requires-2
+get2-requires-2 c κs = search needs
+
+returns-3 : tie.Need-returns-3
+unfolding slipKept
+returns-3 c =
+    let e = c .before .before in
+    let d = e .before .before in
+    rw (
+      is-so (key-here (d .before)) (d .if1 .left),
+      is-so (copies-here (e .before)) (e .if2 .left),
+      ← index-here (c .before),
+      le-ltb _ _ (c .if3 .taken),
+    )
+
+line-in-requires : tie.Need-line-in-requires
+line-in-requires c κs = search needs
+
+do-parties-agree-requires : tie.Need-do-parties-agree-requires
+do-parties-agree-requires c κs = search needs
+
+returns-4 : tie.Need-returns-4
+unfolding slipKept
+returns-4 c =
+    let f = c .before .before in
+    let e = f .before .before in
+    let d = e .before .before in
+    rw (
+      is-so (key-here (d .before)) (d .if1 .left),
+      is-so (copies-here (e .before)) (e .if2 .left),
+      ← index-here (f .before),
+      lt-ltb _ _ (f .if3 .left),
+      c .do-parties-agree .ensures,
+      c .before .line-in .ensures,
+    )
+
+pub is-slip-kept-spec : {M : Type 1} → statement M
+is-slip-kept-spec =
+    tie.close
+    (tie.spec
+    slice-aggregate-is-key
+    part-requires
+    is-key-requires
+    returns
+    get2-requires
+    returns-2
+    get2-requires-2
+    returns-3
+    line-in-requires
+    do-parties-agree-requires
+    returns-4)

@@ -1,0 +1,103 @@
+-- Document 01, "Saved book": what its entries hold. An entry's body is given by its index: key 49, Q 2, mark 1 of a line; key 46, line index 2, quantity 2 of a slip.
+use Prim.Native.Nat.{ℕ, zero, suc, _+_}
+use mathlib.Core.Bool.{Bool, not, _&&_}
+use mathlib.Core.List.{List, map}
+use lib.Dec.{eqb, leb, ltb}
+use lib.ListN.{length, getD, take}
+use lib.Seq.{slice}
+use Rattle.cells.specs.Bytes.{pick, within, same}
+use Rattle.cells.specs.Little.{leAt}
+use Rattle.rules.specs.Class.{allOf}
+use Rattle.rules.specs.declared.class.Class.the-variants.{Allowed, Blank}
+use Rattle.record.specs.Layout.{noField, layout, firstBroken}
+use Rattle.record.specs.declared.layout.Field.{Field}
+use Rattle.record.specs.declared.layout.Kind.the-variants.{Goods}
+use Rattle.entry.specs.Stored.{keyWidth, markAt, slipKeyWidth, slipCopiesPlace, mostCopies, mostArrived}
+use Rattle.book.specs.Lent.{allFrom}
+use Rattle.book.specs.Booking.{keyFields, slipFields}
+
+-- the mark is one of the three: 0 none, 1 J, 2 N
+abbrev pub mostMark : ℕ
+mostMark = 2
+
+-- an address and its qualifier
+abbrev pub partyWidth : ℕ
+partyWidth = 12
+
+-- where the reference stands in a line's key, and the slip number in a slip's key; both are of one width
+abbrev pub referenceAt : ℕ
+referenceAt = 24
+
+abbrev pub slipNumberAt : ℕ
+slipNumberAt = 32
+
+abbrev pub nameWidth : ℕ
+nameWidth = 10
+
+-- the fields of a goods record with these indexes
+unfoldable pub goodsFields : List ℕ → List Field
+goodsFields is = map (λ i. getD (layout Goods) i noField) is
+
+-- key fields stand in the order named and obey the field rules of goods records; the reference or slip number, which stands at a place, is not blank
+unfoldable pub keyKept : List ℕ → ℕ → List ℕ → Bool
+keyKept fields at key =
+    allOf Allowed key && (eqb (firstBroken (goodsFields fields) key) (length fields) && not (allOf Blank (slice at (at + nameWidth) key)))
+
+-- a line: its key, Q from 1 to 9,999, the mark
+unfoldable pub lineKept : List ℕ → Bool
+lineKept body =
+    keyKept (keyFields Goods) referenceAt (take keyWidth body)
+    && (within 1 mostCopies (leAt body keyWidth 2) && leb (getD body markAt 0) mostMark)
+
+-- a slip's school and supplier are its line's; a slip's key begins with the supplier, a line's with the school
+unfoldable pub partiesAgree : List ℕ → List ℕ → Bool
+partiesAgree slip line =
+    same (slice 0 partyWidth slip) (slice partyWidth (partyWidth + partyWidth) line)
+    && same (slice partyWidth (partyWidth + partyWidth) slip) (slice 0 partyWidth line)
+
+-- the index of a slip's line, and its quantity
+unfoldable pub lineIndex : List ℕ → ℕ
+lineIndex body = leAt body slipKeyWidth 2
+
+unfoldable pub slipCopies : List ℕ → ℕ
+slipCopies body = leAt body slipCopiesPlace 2
+
+-- a slip: its key, one of the n lines, quantity from 1 to 9,999
+unfoldable pub slipKept : ℕ → (ℕ → List ℕ) → List ℕ → Bool
+slipKept n line body =
+    keyKept slipFields slipNumberAt (take slipKeyWidth body)
+    && (within 1 mostCopies (slipCopies body)
+    && (ltb (lineIndex body) n && partiesAgree body (line (lineIndex body))))
+
+-- no earlier entry has the key of the entry at i; a key is so many bytes at the front of a body
+unfoldable pub isFirst : ℕ → (ℕ → List ℕ) → ℕ → Bool
+isFirst width body i = allFrom (λ e. not (same (take width (body e)) (take width (body i)))) i 0
+
+-- the sum of a figure over the n places from i on
+unfoldable pub sumFrom : (ℕ → ℕ) → ℕ → ℕ → ℕ
+sumFrom f zero i = 0
+sumFrom f (suc n) i = f i + sumFrom f n (suc i)
+
+-- the copies of the slip at j where it names the line at i, else none
+unfoldable pub copiesOn : (ℕ → List ℕ) → ℕ → ℕ → ℕ
+copiesOn slip i j = pick (eqb (lineIndex (slip j)) i) (slipCopies (slip j)) 0
+
+-- A of the line at i: the sum of the m slips that name it
+unfoldable pub arrivedOn : (ℕ → List ℕ) → ℕ → ℕ → ℕ
+arrivedOn slip m i = sumFrom (copiesOn slip i) m 0
+
+-- each of n lines keeps the rules, and no two share a key
+unfoldable pub linesKept : ℕ → (ℕ → List ℕ) → Bool
+linesKept n line = allFrom (λ i. lineKept (line i) && isFirst keyWidth line i) n 0
+
+-- each of m slips keeps the rules, and no two share a key
+unfoldable pub slipsKept : ℕ → ℕ → (ℕ → List ℕ) → (ℕ → List ℕ) → Bool
+slipsKept n m line slip = allFrom (λ j. slipKept n line (slip j) && isFirst slipKeyWidth slip j) m 0
+
+-- no line's sum is over the limit
+unfoldable pub sumsKept : ℕ → ℕ → (ℕ → List ℕ) → Bool
+sumsKept n m slip = allFrom (λ i. leb (arrivedOn slip m i) mostArrived) n 0
+
+-- n lines and m slips that a book can hold
+unfoldable pub entriesKept : ℕ → ℕ → (ℕ → List ℕ) → (ℕ → List ℕ) → Bool
+entriesKept n m line slip = linesKept n line && (slipsKept n m line slip && sumsKept n m slip)

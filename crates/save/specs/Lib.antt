@@ -1,0 +1,4 @@
+pub mod Entries
+pub mod Saved
+pub mod Load
+pub mod Cases

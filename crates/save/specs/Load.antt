@@ -1,0 +1,58 @@
+-- Document 01, "Saved book": loading a save into a lent book. Load: 20 for room sizes alone, 22, 23.
+use Prim.Native.Nat.{ℕ}
+use mathlib.Core.Bool.{Bool, _&&_}
+use mathlib.Core.List.{List, _++_}
+use lib.Dec.{leb}
+use lib.ListN.{length, set}
+use lib.Seq.{sets}
+use Rattle.cells.specs.Bytes.{pick}
+use Rattle.cells.specs.Little.{leBytes}
+use Rattle.entry.specs.Stored.{lineWidth, slipWidth}
+use Rattle.book.specs.Lent.{Lent, mostLines, mostSlips, lineRoom, slipRoom, roomSound}
+use Rattle.save.specs.Entries.{arrivedOn}
+use Rattle.save.specs.Saved.{refusedNumber, joinedFrom, statedLines, statedSlips, lineIn, slipIn, isSave}
+use Rattle.save.specs.declared.answer.Refused.{Refused}
+use Rattle.save.specs.declared.answer.Refused.the-variants.{Unsound, NoSave, TooSmall}
+use Rattle.save.specs.declared.answer.Loaded.{Loaded}
+
+-- the rooms alone are of right size
+unfoldable pub roomsSound : Lent → Bool
+roomsSound b = roomSound lineWidth mostLines (length (b .lines)) && roomSound slipWidth mostSlips (length (b .slips))
+
+-- a line of the book from a save of n lines and m slips: its body, and as A the sum of its slips
+unfoldable pub loadedLine : List ℕ → ℕ → ℕ → ℕ → List ℕ
+loadedLine s n m i = lineIn s i ++ leBytes 4 (arrivedOn (slipIn s n) m i)
+
+-- load replaces the counts and the entries it fills
+unfoldable pub lentLoaded : List ℕ → ℕ → ℕ → Lent → Lent
+lentLoaded s n m b =
+    record {
+      lines = sets (b .lines) 0 (joinedFrom (loadedLine s n m) n 0);
+      slips = sets (b .slips) 0 (joinedFrom (slipIn s n) m 0);
+      used = set (set (b .used) 0 n) 1 m;
+    }
+
+-- what loading says, and the lent book afterwards
+pub record Outcome : Type 0 where
+  pub said : Loaded
+  pub lent : Lent
+
+abbrev pub outcome : Loaded → Lent → Outcome
+outcome said b = record { said = said; lent = b }
+
+-- a refusal changes nothing lent
+unfoldable pub notLoaded : Refused → Loaded
+notLoaded r = record { answer = refusedNumber r; place = 0 }
+
+abbrev pub doneAs : Loaded
+doneAs = record { answer = 0; place = 0 }
+
+unfoldable pub load : List ℕ → Lent → Outcome
+load s b =
+    pick (roomsSound b)
+    (pick (isSave s)
+    (pick (leb (statedLines s) (lineRoom b) && leb (statedSlips s) (slipRoom b))
+    (outcome doneAs (lentLoaded s (statedLines s) (statedSlips s) b))
+    (outcome (notLoaded TooSmall) b))
+    (outcome (notLoaded NoSave) b))
+    (outcome (notLoaded Unsound) b)

@@ -1,0 +1,100 @@
+-- Saving and loading, stage by stage.
+use mathlib.Core.Path.{_≡_, _∙_, ap, sym, refl}
+use mathlib.Core.Bool.{Bool, true, false, not, _&&_, _||_}
+use mathlib.Core.List.{List, _∷_, _++_}
+use Prim.Native.Nat.{ℕ, _+_, _*_, _≤_, _<_}
+use native.Mathlib.Omega.{arith}
+use borrow.Author.Tests.{le-leb, lt-leb, le-ltb, lt-ltb, leb-true, leb-false}
+use lib.Dec.{leb, ltb}
+use lib.ListN.{length}
+use lib.Seq.{sets}
+use Rattle.cells.proofs.Stores.{sets-append}
+use Rattle.book.specs.Lent.{Lent, usedLines, usedSlips, lineRoom, slipRoom, sound}
+use Rattle.book.proofs.Sounds.{Sound, sound-so}
+use Rattle.save.specs.Saved.{Written, written, lineKind, slipKind, joinedFrom, lineBodyAt, slipBodyAt, lineEntries, slipEntries, endEntry, savedForm, savedWidth, endWidth, notSaved, save, statedLines, statedSlips, lineIn, slipIn, inForm, isSave}
+use Rattle.save.specs.Entries.{entriesKept}
+use Rattle.save.specs.Load.{Outcome, outcome, roomsSound, lentLoaded, notLoaded, doneAs, load}
+use Rattle.save.proofs.Forms.{form-long}
+use Rattle.cells.proofs.Bools.{split, and-left, and-right}
+use Rattle.save.specs.declared.answer.Refused.the-variants.{Unsound, NoSave, TooSmall}
+use Rattle.save.proofs.Joined.{joined-length}
+use Rattle.saving.proofs.Entries.{entry-long}
+
+module _ (b : Lent) (out : List ℕ) where
+  -- 20
+  pub save-unsound : sound b ≡ false → save b out ≡ written (notSaved Unsound) out
+  unfolding save
+  save-unsound h = rw h
+
+  module _ (h : sound b ≡ true) where
+    -- 23
+    pub save-small : length out < savedWidth (usedLines b) (usedSlips b) → save b out ≡ written (notSaved TooSmall) out
+    unfolding save
+    save-small e = rw (h, lt-leb (savedWidth (usedLines b) (usedSlips b)) (length out) e)
+
+    pub save-done : savedWidth (usedLines b) (usedSlips b) ≤ length out
+        → save b out ≡ written (record { answer = 0; place = 0; length = savedWidth (usedLines b) (usedSlips b) }) (sets out 0 (savedForm b))
+    unfolding save
+    save-done e = rw (h, le-leb (savedWidth (usedLines b) (usedSlips b)) (length out) e)
+
+    -- lines, slips and the end stored one after the other are the saved form
+    pub form-stored : sets (sets (sets out 0 (lineEntries (b .lines) (usedLines b))) (53 * usedLines b) (slipEntries (b .slips) (usedSlips b))) (53 * usedLines b + 51 * usedSlips b) (endEntry (usedLines b) (usedSlips b))
+        ≡ sets out 0 (savedForm b)
+    unfolding savedForm lineEntries slipEntries lineBodyAt slipBodyAt
+    form-stored =
+        let say = sound-so b h in
+        let n : ℕ = usedLines b in
+        let m : ℕ = usedSlips b in
+        let ls : List ℕ = lineEntries (b .lines) n in
+        let ts : List ℕ = slipEntries (b .slips) m in
+        let l : length ls ≡ 53 * n = joined-length (λ i. lineKind ∷ lineBodyAt (b .lines) i) 53 n 0 (λ i x y. entry-long lineKind (56 * i) 52 (b .lines) (omega (arith, say .lines-in))) in
+        let t : length ts ≡ 51 * m = joined-length (λ j. slipKind ∷ slipBodyAt (b .slips) j) 51 m 0 (λ j x y. entry-long slipKind (50 * j) 50 (b .slips) (omega (arith, say .slips-in))) in
+        let at-slips : 0 + length ls ≡ 53 * n = omega (arith, l) in
+        let at-end : 53 * n + length ts ≡ 53 * n + 51 * m = omega (arith, t) in
+        sym
+        (sets-append out 0 ls (ts ++ endEntry n m)
+        ∙ ap (λ (k : ℕ). sets (sets out 0 ls) k (ts ++ endEntry n m)) at-slips
+        ∙ sets-append (sets out 0 ls) (53 * n) ts (endEntry n m)
+        ∙ ap (λ (k : ℕ). sets (sets (sets out 0 ls) (53 * n) ts) k (endEntry n m)) at-end)
+
+-- too small a room is one that does not fit
+pub small-either : (n r m q : ℕ) → leb n r && leb m q ≡ not (ltb r n || ltb q m)
+small-either n r m q =
+    split (leb n r)
+    (λ e.
+    let a : ltb r n ≡ false = le-ltb r n (leb-true n r e) in
+    split (leb m q)
+    (λ f. rw (e, f, a, le-ltb q m (leb-true m q f)))
+    (λ f. rw (e, f, a, lt-ltb q m (leb-false m q f))))
+    (λ e. rw (e, lt-ltb r n (leb-false n r e)))
+
+module _ (s : List ℕ) (b : Lent) where
+  -- 20
+  pub load-unsound : roomsSound b ≡ false → load s b ≡ outcome (notLoaded Unsound) b
+  unfolding load
+  load-unsound h = rw h
+
+  module _ (h : roomsSound b ≡ true) where
+    -- 22
+    pub load-no-save : isSave s ≡ false → load s b ≡ outcome (notLoaded NoSave) b
+    unfolding load
+    load-no-save e = rw (h, e)
+
+    module _ (e : isSave s ≡ true) where
+      -- 23
+      pub load-small : leb (statedLines s) (lineRoom b) && leb (statedSlips s) (slipRoom b) ≡ false → load s b ≡ outcome (notLoaded TooSmall) b
+      unfolding load
+      load-small f = rw (h, e, f)
+
+      pub load-done : leb (statedLines s) (lineRoom b) && leb (statedSlips s) (slipRoom b) ≡ true
+          → load s b ≡ outcome doneAs (lentLoaded s (statedLines s) (statedSlips s) b)
+      unfolding load
+      load-done f = rw (h, e, f)
+
+-- the end of a save, and the entries that it states, stand in it
+pub save-long : (s : List ℕ) → isSave s ≡ true → (endWidth ≤ length s) × (53 * statedLines s + 51 * statedSlips s ≤ length s)
+unfolding isSave
+save-long s e =
+    let rest : Bool = inForm (statedLines s) (statedSlips s) s && entriesKept (statedLines s) (statedSlips s) (lineIn s) (slipIn s (statedLines s)) in
+    let form : inForm (statedLines s) (statedSlips s) s ≡ true = and-left _ _ (and-right (leb endWidth (length s)) rest e) in
+    (leb-true _ _ (and-left (leb endWidth (length s)) rest e), omega (arith, form-long (statedLines s) (statedSlips s) s form))

@@ -1,0 +1,98 @@
+-- `saving::output::put_slips` meets its contract. The invariant: the slips that are left, stored behind those before, make of the output what all of them make of it.
+use mathlib.Core.Path.{_≡_, _∙_, sym, refl}
+use mathlib.Core.List.{_∷_}
+use Prim.Native.Nat.{_+_, _*_, _-_, _≤_}
+use native.Mathlib.Omega.{arith}
+use native.Mathlib.Nat.{sub-zero}
+use lib.ListN.{length}
+use lib.Seq.{sets}
+use Rattle.rules.proofs.Parts.{part-most}
+use Rattle.save.specs.Saved.{slipKind, joinedFrom, slipBodyAt, slipEntries}
+use Rattle.save.proofs.Joined.{joined-next, joined-end}
+use Rattle.saving.proofs.Entries.{entry-long}
+use borrow.Author.Needs.{needs}
+use Rattle.saving.proofs.output.put_slips.Statement.{statement}
+use Rattle.saving.proofs.output.put_slips.Tie as tie
+
+abbrev Inv-loop : tie.InvT-loop
+Inv-loop out₀ start slips m j₀ out j =
+    (j ≤ m)
+    × (length out ≡ length out₀)
+    × (sets out₀ start (slipEntries slips m) ≡ sets out (start + 51 * j) (joinedFrom (λ k. slipKind ∷ slipBodyAt slips k) (m - j) j))
+
+abbrev μ-loop : tie.MeasureT-loop
+μ-loop out₀ start slips m j₀ out j = m - j
+
+loop-holds : tie.Need-loop-holds Inv-loop μ-loop
+unfolding slipEntries
+loop-holds c =
+    let e : c .before .before .args .start + 51 * 0 ≡ c .before .before .args .start = omega arith in
+    (omega arith, refl, rw (sub-zero, e))
+
+mul-at : tie.Need-mul-at Inv-loop μ-loop
+mul-at c = omega arith
+
+add-at : tie.Need-add-at Inv-loop μ-loop
+add-at c = omega arith
+
+mul-from : tie.Need-mul-from Inv-loop μ-loop
+mul-from c = omega arith
+
+add-part : tie.Need-add-part Inv-loop μ-loop
+add-part c = omega arith
+
+part-requires : tie.Need-part-requires Inv-loop μ-loop
+part-requires c κs = search needs
+
+put-entry-requires : tie.Need-put-entry-requires Inv-loop μ-loop
+put-entry-requires c κs =
+    let l = c .before .before .before .loop in
+    let a = c .before .before .before .before .before .before .args in
+    let e = part-most (50 * l .j) (50 * l .j + 50) (a .slips .now) in
+    rw (c .part .ensures) (omega arith)
+
+add-j : tie.Need-add-j Inv-loop μ-loop
+add-j c = omega arith
+
+loop-less : tie.Need-loop-less Inv-loop μ-loop
+loop-less c = omega arith
+
+loop-again : tie.Need-loop-again Inv-loop μ-loop
+unfolding slipBodyAt
+loop-again c =
+    let put = c .before .before in
+    let l = put .before .before .before .before .loop in
+    let a = put .before .before .before .before .before .before .before .args in
+    let long = entry-long slipKind (50 * l .j) 50 (a .slips .now) (omega arith) in
+    let at : a .start + 51 * l .j + (50 + 1) ≡ a .start + 51 * (l .j + 1) = omega arith in (
+      omega arith,
+      search needs,
+      l .inv .2 ∙ (joined-next (λ k. slipKind ∷ slipBodyAt (a .slips .now) k) (a .m) (l .j) (l .out) (a .start + 51 * l .j) (50 + 1) (omega arith) long ∙ rw (at, put .put-entry .ensures, put .before .part .ensures)),
+    )
+
+same-length : tie.Need-same-length Inv-loop μ-loop
+same-length c = search needs
+
+returns : tie.Need-returns Inv-loop μ-loop
+returns c =
+    let l = c .before .loop in
+    sym (l .inv .2 ∙ joined-end _ _ _ _ _ (omega arith))
+
+pub put-slips-spec : {M : Type 1} → statement M
+put-slips-spec =
+    tie.close
+    (tie.spec
+    Inv-loop
+    μ-loop
+    loop-holds
+    mul-at
+    add-at
+    mul-from
+    add-part
+    part-requires
+    put-entry-requires
+    add-j
+    loop-less
+    loop-again
+    same-length
+    returns)

@@ -1,0 +1,101 @@
+// The C library: the calls that the host program links, over byte slices and numbers. A slice is a pointer and a length, `used` one pointer.
+ghost use mathlib.Core.Path.{_≡_};
+ghost use mathlib.Core.List.{[], _∷_};
+ghost use Rattle.record.specs.Read.{outcome as read, check};
+ghost use Rattle.writing.specs.Write.{outcome as written, write};
+ghost use Rattle.book.specs.Lent.{lent};
+ghost use Rattle.book.specs.Booking.{outcome as booked, book};
+ghost use Rattle.book.specs.Asked.{lineAsked};
+ghost use Rattle.save.specs.Saved.{written as saved, save};
+ghost use Rattle.save.specs.Load.{outcome as loaded, load};
+use book::answer::Booked;
+use record::answer::Checked;
+use save::answer::Loaded;
+use save::answer::Saved;
+use writing::answer::Written;
+
+// Reads a record: its answer and place, and its optional fields in the table, three numbers each.
+#[no_mangle]
+pub extern "C" fn wq_check(record: &[u8], table: &mut [usize]) -> Checked
+    ensures { λ r. ⌜ read r (now (table .exit)) ≡ check (now («record» .entry)) (now (table .entry)) ⌝ }
+{
+    reader::check(record, table)
+}
+
+// Writes a record from its fixed part, a table of optional fields and the bytes that hold their contents.
+#[no_mangle]
+pub extern "C" fn wq_write(
+    fixed: &[u8],
+    table: &[usize],
+    fields: usize,
+    contents: &[u8],
+    out: &mut [u8],
+) -> Written
+    ensures { λ r. ⌜ written r (now (out .exit)) ≡ write (now (fixed .entry)) (now (table .entry)) fields (now (contents .entry)) (now (out .entry)) ⌝ }
+{
+    writing::write(fixed, table, fields, contents, out)
+}
+
+// Books a record into the lent book.
+#[no_mangle]
+pub extern "C" fn wq_book(
+    record: &[u8],
+    lines: &mut [u8],
+    slips: &mut [u8],
+    used: &mut [usize; 2],
+) -> Booked
+    ensures { λ r. ⌜ booked r (lent (now (lines .exit)) (now (slips .exit)) (now (used .exit))) ≡ book (now («record» .entry)) (lent (now (lines .entry)) (now (slips .entry)) (now (used .entry))) ⌝ }
+{
+    booking::book(record, lines, slips, used)
+}
+
+// The figures of the line with a key.
+#[no_mangle]
+pub extern "C" fn wq_line(
+    school: &[u8],
+    school_qualifier: &[u8],
+    supplier: &[u8],
+    supplier_qualifier: &[u8],
+    reference: &[u8],
+    article: &[u8],
+    article_qualifier: &[u8],
+    lines: &[u8],
+    slips: &[u8],
+    used: &[usize; 2],
+) -> Booked
+    ensures { λ r. ⌜ r ≡ lineAsked (now (school .entry) ∷ now («school_qualifier» .entry) ∷ now (supplier .entry) ∷ now («supplier_qualifier» .entry) ∷ now (reference .entry) ∷ now (article .entry) ∷ now («article_qualifier» .entry) ∷ []) (lent (now (lines .entry)) (now (slips .entry)) (now (used .entry))) ⌝ }
+{
+    asking::line(
+        school,
+        school_qualifier,
+        supplier,
+        supplier_qualifier,
+        reference,
+        article,
+        article_qualifier,
+        lines,
+        slips,
+        used,
+    )
+}
+
+// Saves the lent book at the front of the output.
+#[no_mangle]
+pub extern "C" fn wq_save(lines: &[u8], slips: &[u8], used: &[usize; 2], out: &mut [u8]) -> Saved
+    ensures { λ r. ⌜ saved r (now (out .exit)) ≡ save (lent (now (lines .entry)) (now (slips .entry)) (now (used .entry))) (now (out .entry)) ⌝ }
+{
+    saving::save(lines, slips, used, out)
+}
+
+// Loads a save into a lent book of any contents.
+#[no_mangle]
+pub extern "C" fn wq_load(
+    save: &[u8],
+    lines: &mut [u8],
+    slips: &mut [u8],
+    used: &mut [usize; 2],
+) -> Loaded
+    ensures { λ r. ⌜ loaded r (lent (now (lines .exit)) (now (slips .exit)) (now (used .exit))) ≡ load (now (save .entry)) (lent (now (lines .entry)) (now (slips .entry)) (now (used .entry))) ⌝ }
+{
+    saving::load(save, lines, slips, used)
+}

@@ -1,0 +1,11 @@
+/* The list of what is still open, for whoever chases it. */
+#ifndef LISTING_H
+#define LISTING_H
+
+#include "book_file.h"
+
+/* Prints the book grouped by school: each line that has copies open, let go or extra, the
+   complete lines as one row, and a total. */
+void print_listing(const struct book *book);
+
+#endif

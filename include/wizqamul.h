@@ -1,0 +1,255 @@
+/* Wizqamul: the order book of a school library's ordering desk.
+ *
+ * One desk orders books for many schools. Orders (B101) go out to wholesalers; deliveries
+ * (L101) and reports (M101) come back mixed. The library reads and writes these records,
+ * books them into one shared book, and tells for each order line how many copies are
+ * ordered, filled, open, let go or extra. The book can be saved as bytes and loaded again.
+ *
+ * It opens no files, takes no memory of its own and keeps nothing between two calls: you
+ * lend it all bytes for the length of one call. No call asks anything of you except that
+ *   - each pointer is valid for the length given with it, and `used` for two numbers;
+ *     no pointer is null, also where the length is 0;
+ *   - a part that the call writes overlaps no other part. Parts that are only read may
+ *     overlap: a key for wq_line may be read straight out of a line entry.
+ * Any bytes and any numbers may be handed over; those that are wrong are refused.
+ *
+ * Each call returns a struct by value. `answer` is 0 for done, else it tells the reason.
+ * A refusal gives its answer and its place, 0 in all other members, and changes nothing
+ * that was lent. On success the place is 0. An answer is the first refusal that holds, in
+ * the order named at the call. "1 to 10" are always asked in the order of their numbers,
+ * except that 6 to 8 come from one walk over the optional fields, and then 9 and 10 from a
+ * second: 9, then 10, at each field.
+ *
+ * Example: books one record into an empty book and prints "10 copies open".
+ *
+ *     #include "wizqamul.h"
+ *     #include <stdio.h>
+ *     #include <string.h>
+ *     static uint8_t lines[WQ_MOST_LINES * WQ_LINE_WIDTH];
+ *     static uint8_t slips[WQ_MOST_SLIPS * WQ_SLIP_WIDTH];
+ *     int main(void)
+ *     {
+ *         size_t used[WQ_USED_NUMBERS] = {0, 0};
+ *         const char *record = "B10143210     VD24000     VD20240219A-17      "
+ *                              "9783442756841EN0010ST*9999";
+ *         wq_booked booked = wq_book((const uint8_t *)record, strlen(record),
+ *                                    lines, sizeof lines, slips, sizeof slips, used);
+ *         if (booked.answer != WQ_DONE) {
+ *             printf("refused: %d\n", (int)booked.answer);
+ *             return 1;
+ *         }
+ *         printf("%d copies open\n", (int)booked.still_open);
+ *         return 0;
+ *     }
+ */
+#ifndef WIZQAMUL_H
+#define WIZQAMUL_H
+
+#include <stddef.h>
+#include <stdint.h>
+
+#ifdef __cplusplus
+extern "C" {
+#endif
+
+/* ---- Records --------------------------------------------------------------------------
+ * A record is a fixed part, then optional fields, then `*9999`; the CR LF that ends it in
+ * a file is not part of it. Allowed bytes are 32 to 126 and 160 to 255; blank is byte 32.
+ * An optional field is a star, four digits of ID, and a content without a star.
+ * Fixed parts, fields in order with their lengths:
+ *   B101: kind 4, sender 10, qualifier 2, recipient 10, qualifier 2, date 8, reference 10,
+ *         article 13, qualifier 2, quantity 4, qualifier 2.
+ *   L101: kind 4, sender 10, qualifier 2, recipient 10, qualifier 2, date 8, slip number 10,
+ *         position 4, reference 10, article 13, qualifier 2, quantity 4, price 15,
+ *         price qualifier 2, currency 3, discount 8, tax mark 1.
+ *   M101: kind 4, sender 10, qualifier 2, recipient 10, qualifier 2, slip number 10,
+ *         reference 10, article 13, qualifier 2, message 3, hold mark 1, expected date 8,
+ *         partial quantity 4.
+ * The school is the sender of a B101 and the recipient of an L101 or M101. */
+#define WQ_KIND_ORDER "B101"
+#define WQ_KIND_DELIVERY "L101"
+#define WQ_KIND_REPORT "M101"
+#define WQ_KIND_WIDTH 4
+#define WQ_ORDER_LENGTH 67       /* fixed part of a B101 */
+#define WQ_DELIVERY_LENGTH 108   /* fixed part of an L101 */
+#define WQ_REPORT_LENGTH 79      /* fixed part of an M101 */
+#define WQ_MOST_RECORD 1024      /* most bytes in a record */
+#define WQ_MOST_FIELDS 64        /* most optional fields before *9999 */
+#define WQ_FIELD_HEAD 5          /* a star and four digits; also the length of *9999 */
+#define WQ_END_ID 9999
+
+/* A table describes optional fields, three numbers a field: ID, place where its content
+ * starts, length of its content. Table lengths count numbers, not fields and not bytes. */
+#define WQ_TABLE_NUMBERS 3
+#define WQ_TABLE_ID 0
+#define WQ_TABLE_PLACE 1
+#define WQ_TABLE_LENGTH 2
+#define WQ_FULL_TABLE (WQ_MOST_FIELDS * WQ_TABLE_NUMBERS)   /* 192 numbers */
+
+/* ---- The lent book --------------------------------------------------------------------
+ * A book is `lines` (room for 1 to 512 entries), `slips` (room for 1 to 1,024 entries) and
+ * `used` (how many of each are in use). Room lengths are in bytes and a whole number of
+ * entries. An empty book is any room with used {0, 0}. What stands past the used entries
+ * is never looked at. Numbers in entries are unsigned, lowest byte first.
+ * A book is sound if the used counts fit the room, each used slip names a used line, and
+ * each used line has 1 to 9,999 ordered, at most 9,999,999 arrived and a mark of 0 to 2.
+ * Where keys repeat, the first entry counts. */
+#define WQ_MOST_LINES 512
+#define WQ_MOST_SLIPS 1024
+#define WQ_USED_NUMBERS 2        /* numbers in `used` */
+#define WQ_USED_LINES 0          /* used[0]: lines in use */
+#define WQ_USED_SLIPS 1          /* used[1]: slips in use */
+#define WQ_MOST_COPIES 9999      /* most copies in one order or on one slip */
+#define WQ_MOST_ARRIVED 9999999  /* most copies that may arrive on one line */
+
+#define WQ_ADDRESS_WIDTH 10      /* widths of the fields in keys */
+#define WQ_QUALIFIER_WIDTH 2
+#define WQ_REFERENCE_WIDTH 10
+#define WQ_ARTICLE_WIDTH 13
+#define WQ_DATE_WIDTH 8
+#define WQ_SLIP_NUMBER_WIDTH 10
+#define WQ_POSITION_WIDTH 4
+
+/* A line: where each part starts in its entry. The first 49 bytes are its key. */
+#define WQ_LINE_WIDTH 56
+#define WQ_LINE_KEY_WIDTH 49
+#define WQ_LINE_SCHOOL 0
+#define WQ_LINE_SCHOOL_QUALIFIER 10
+#define WQ_LINE_SUPPLIER 12
+#define WQ_LINE_SUPPLIER_QUALIFIER 22
+#define WQ_LINE_REFERENCE 24
+#define WQ_LINE_ARTICLE 34
+#define WQ_LINE_ARTICLE_QUALIFIER 47
+#define WQ_LINE_ORDERED 49       /* 2 bytes: copies ordered */
+#define WQ_LINE_MARK 51          /* 1 byte: the last report's hold mark */
+#define WQ_LINE_ARRIVED 52       /* 4 bytes: sum of the line's slips */
+#define WQ_LINE_ORDERED_WIDTH 2
+#define WQ_LINE_MARK_WIDTH 1
+#define WQ_LINE_ARRIVED_WIDTH 4
+#define WQ_MARK_NONE 0           /* no report so far */
+#define WQ_MARK_HELD 1           /* J: the supplier holds the order open */
+#define WQ_MARK_LET_GO 2         /* N: the supplier lets the rest go */
+
+/* A slip: where each part starts in its entry. The first 46 bytes are its key. */
+#define WQ_SLIP_WIDTH 50
+#define WQ_SLIP_KEY_WIDTH 46
+#define WQ_SLIP_SUPPLIER 0
+#define WQ_SLIP_SUPPLIER_QUALIFIER 10
+#define WQ_SLIP_SCHOOL 12
+#define WQ_SLIP_SCHOOL_QUALIFIER 22
+#define WQ_SLIP_DATE 24
+#define WQ_SLIP_NUMBER 32
+#define WQ_SLIP_POSITION 42
+#define WQ_SLIP_LINE 46          /* 2 bytes: index of its line, from 0 */
+#define WQ_SLIP_QUANTITY 48      /* 2 bytes: copies on the slip */
+#define WQ_SLIP_LINE_WIDTH 2
+#define WQ_SLIP_QUANTITY_WIDTH 2
+
+/* ---- The saved book -------------------------------------------------------------------
+ * Lines, then slips, in book order, then the end. Each entry is one byte of kind and a
+ * body: a line's first 52 bytes, a slip's 50 bytes, or used lines (2) and used slips (2). */
+#define WQ_SAVE_END 0
+#define WQ_SAVE_LINE 1
+#define WQ_SAVE_SLIP 2
+#define WQ_SAVE_LINE_WIDTH 53
+#define WQ_SAVE_SLIP_WIDTH 51
+#define WQ_SAVE_END_WIDTH 5
+#define WQ_SAVE_LENGTH(lines, slips) \
+    ((lines) * WQ_SAVE_LINE_WIDTH + (slips) * WQ_SAVE_SLIP_WIDTH + WQ_SAVE_END_WIDTH)
+
+/* ---- Answers --------------------------------------------------------------------------
+ * Places are bytes of the record, counted from 0; from 11 on the place is 0. Writing has
+ * places of its own: see wq_write. */
+#define WQ_DONE 0              /* Done. */
+#define WQ_TOO_LONG 1          /* The record is over 1,024 bytes; place 1,024. */
+#define WQ_UNKNOWN_KIND 2      /* It starts with none of the three kinds; place 0. */
+#define WQ_TOO_SHORT 3         /* No room for the fixed part and *9999; place: its length. */
+#define WQ_BYTE_NOT_ALLOWED 4  /* A byte is not allowed; place: the first such byte. */
+#define WQ_FIXED_FIELD 5       /* A fixed field breaks its rule; place: the field's start. */
+#define WQ_NO_STAR_OR_ID 6     /* No star, or no four digits after it; place: the star's. */
+#define WQ_END_MISPLACED 7     /* *9999 is not last (place: its star) or absent (length). */
+#define WQ_TOO_MANY_FIELDS 8   /* More than 64 optional fields; place: the 65th's star. */
+#define WQ_CONTENT 9           /* An optional field's content is wrong; place: its star. */
+#define WQ_GROUP 10            /* Fields that belong together are apart; place: the star. */
+#define WQ_QUANTITY_ZERO 11    /* An order or a delivery of no copies. */
+#define WQ_REFERENCE_BLANK 12  /* The reference is blank, so no line can be told. */
+#define WQ_NOTHING_TO_BOOK 13  /* A closing record or an advance notice: never booked. */
+#define WQ_LINE_EXISTS 14      /* A line with this key exists already. */
+#define WQ_LINES_FULL 15       /* All lines of the room are used. */
+#define WQ_NO_LINE 16          /* There is no line with this key. */
+#define WQ_SLIP_REPEATED 17    /* The slip is booked already, same line and quantity. */
+#define WQ_SLIP_DIFFERS 18     /* The slip is booked already with another line or quantity. */
+#define WQ_SLIPS_FULL 19       /* All slips of the room are used. */
+#define WQ_BOOK_UNSOUND 20     /* The lent book is unsound, or a room has a wrong size. */
+#define WQ_ARRIVED_LIMIT 21    /* More than 9,999,999 copies would have arrived on a line. */
+#define WQ_SAVE_INVALID 22     /* The bytes are not exactly one valid save. */
+#define WQ_TOO_SMALL 23        /* The lent output, table or book is too small. */
+
+/* ---- Results -------------------------------------------------------------------------- */
+typedef struct { uint64_t answer, place, fields; } wq_checked;
+typedef struct { uint64_t answer, place, length; } wq_written;
+typedef struct { uint64_t answer, place, ordered, filled, still_open, let_go, extra; } wq_booked;
+typedef struct { uint64_t answer, place, length; } wq_saved;
+typedef struct { uint64_t answer, place; } wq_loaded;
+
+/* ---- Calls ---------------------------------------------------------------------------- */
+
+/* Reads one record. Needs a table of at least 192 numbers (WQ_FULL_TABLE), whatever the
+ * record. Gives `fields`, the number of optional fields, and writes three numbers for each
+ * of them; a place in the table counts from the record's start. The rest of the table and
+ * the record never change. Refusals: 23, then 1 to 10. */
+wq_checked wq_check(const uint8_t *record, size_t record_length, size_t *table, size_t table_length);
+
+/* Writes one record: the fixed part as bytes, `fields` optional fields from the table,
+ * whose places count from the start of `contents`, and *9999. Gives `length` and writes
+ * that many bytes to `out`; the rest of `out` and all other parts never change. No CR LF is
+ * written. What it writes, wq_check accepts; 1,024 bytes of `out` are always enough.
+ * Refusals, in order, with their own places:
+ *   5   a fixed field breaks its rule or holds a byte not allowed; place: the field's index
+ *       from 0. An unknown kind, or a fixed part not of its kind's length, is 5 at 0.
+ *   8   `fields` is over 64; place 64.
+ *   23  the table has fewer than three numbers for each field; place 0.
+ *   9   a content is wrong, holds a star or a byte not allowed, or lies outside `contents`,
+ *       or the ID is 9999 or more; then 10, a group is broken; both are asked at each field
+ *       in turn; place: the field's index from 0.
+ *   1   the record would be over 1,024 bytes; place 0.
+ *   23  `out` is too small; place 0. */
+wq_written wq_write(const uint8_t *fixed, size_t fixed_length, const size_t *table, size_t table_length, size_t fields, const uint8_t *contents, size_t contents_length, uint8_t *out, size_t out_length);
+
+/* Books one record and gives its line's figures. An order adds a line and 1 to used[0]; a
+ * delivery adds a slip and 1 to used[1], and adds its copies to its line's arrived; a report
+ * sets its line's mark. Nothing else changes, and the record never does.
+ *   filled      the smaller of ordered and arrived
+ *   extra       arrived minus filled
+ *   let_go      ordered minus filled where the last mark is N, else 0
+ *   still_open  ordered minus filled where the last mark is not N, else 0
+ * A delivery after an N still fills. A record booked twice changes nothing the second time
+ * (14, 17), but a report sets its mark each time.
+ * Refusals: 20, 1 to 10, 13, 11, 12; then for an order 14, 15; for a delivery 17 or 18, 16,
+ * 21, 19; for a report 16. */
+wq_booked wq_book(const uint8_t *record, size_t record_length, uint8_t *lines, size_t lines_length, uint8_t *slips, size_t slips_length, size_t *used);
+
+/* Gives the figures of the line with this key. The seven key fields have the widths above,
+ * filled with blanks; one of another length matches no line. Changes nothing.
+ * Refusals: 20, then 16. */
+wq_booked wq_line(const uint8_t *school, size_t school_length, const uint8_t *school_qualifier, size_t school_qualifier_length, const uint8_t *supplier, size_t supplier_length, const uint8_t *supplier_qualifier, size_t supplier_qualifier_length, const uint8_t *reference, size_t reference_length, const uint8_t *article, size_t article_length, const uint8_t *article_qualifier, size_t article_qualifier_length, const uint8_t *lines, size_t lines_length, const uint8_t *slips, size_t slips_length, const size_t *used);
+
+/* Saves the book: writes WQ_SAVE_LENGTH(used[0], used[1]) bytes to `out` and gives that
+ * `length`. The rest of `out` and the book never change. It takes every sound book; a book
+ * made by bookings from an empty one loads again with equal counts and used entries.
+ * Refusals: 20, then 23 where `out` is too small. */
+wq_saved wq_save(const uint8_t *lines, size_t lines_length, const uint8_t *slips, size_t slips_length, const size_t *used, uint8_t *out, size_t out_length);
+
+/* Loads a save: replaces used[0] and used[1] and fills the entries they count; each line's
+ * arrived is the sum of its slips. Entries past them and the saved bytes never change. What
+ * the book held before is not judged and is lost.
+ * Refusals: 20 for room sizes alone; 22 for bytes that are not exactly one valid save, keys
+ * that repeat, or a line with more than 9,999,999 arrived; 23 where the save is valid but
+ * has more lines or slips than the rooms. */
+wq_loaded wq_load(const uint8_t *saved, size_t saved_length, uint8_t *lines, size_t lines_length, uint8_t *slips, size_t slips_length, size_t *used);
+
+#ifdef __cplusplus
+}
+#endif
+
+#endif

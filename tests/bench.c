@@ -1,0 +1,525 @@
+/* The library's speed beside that of the reference, call by call on the same inputs.
+   Usage: bench FILE, where FILE holds records that each end with CR LF. Prints a table in
+   Markdown; its last line is the worst ratio. Fails where the two sides differ.
+   The two sides take turns on the same bytes, and the shortest repetition of each counts:
+   whatever else the machine does can only lengthen one. All rows are timed in several passes,
+   so that a few busy seconds do not fall on every repetition of a row. Time is the thread's
+   own processor time. */
+#define _POSIX_C_SOURCE 200112L
+
+#include "reference.h"
+
+#include <inttypes.h>
+#include <stdio.h>
+#include <stdlib.h>
+#include <string.h>
+#include <time.h>
+
+enum {
+    /* 40 repetitions of each side in all */
+    PASSES = 10, REPETITIONS = 4, LEAST_NANOSECONDS = 2000000,
+    MOST_RECORDS = 64, FILE_ROOM = 65536, LONGEST = 1024, FULL_TABLE = 192, TEXT = 128,
+    ORDER_LENGTH = 67, DELIVERY_LENGTH = 108, REPORT_LENGTH = 79,
+    ADDRESS = 10, QUALIFIER = 2, REFERENCE_WIDTH = 10, ARTICLE = 13,
+    SUPPLIER_PLACE = ADDRESS + QUALIFIER, REFERENCE_PLACE = 2 * SUPPLIER_PLACE,
+    ARTICLE_PLACE = REFERENCE_PLACE + REFERENCE_WIDTH,
+    LINE = 56, SLIP = 50, SAVED_LINE = 53, SAVED_SLIP = 51, SAVED_END = 5,
+    MOST_LINES = 512, MOST_SLIPS = 2 * MOST_LINES, POSITIONS_ON_A_SLIP = 8,
+    SAVE_ROOM = MOST_LINES * SAVED_LINE + MOST_SLIPS * SAVED_SLIP + SAVED_END,
+    ANSWER_DONE = 0, ANSWER_REPEATED = 17
+};
+
+static const size_t sizes[] = {10, 100, 256, MOST_LINES};
+enum { SIZES = sizeof sizes / sizeof sizes[0], BOOK_ROWS = 7,
+       MOST_ROWS = 2 * (1 + MOST_RECORDS) + BOOK_ROWS * SIZES };
+
+/* The calls of one side. */
+enum { LIBRARY, REFERENCE, SIDES };
+struct side {
+    wq_checked (*check)(const uint8_t *, size_t, size_t *, size_t);
+    wq_written (*write)(const uint8_t *, size_t, const size_t *, size_t, size_t,
+                        const uint8_t *, size_t, uint8_t *, size_t);
+    wq_booked (*book)(const uint8_t *, size_t, uint8_t *, size_t, uint8_t *, size_t, size_t *);
+    wq_booked (*line)(const uint8_t *, size_t, const uint8_t *, size_t, const uint8_t *, size_t,
+                      const uint8_t *, size_t, const uint8_t *, size_t, const uint8_t *, size_t,
+                      const uint8_t *, size_t, const uint8_t *, size_t, const uint8_t *, size_t,
+                      const size_t *);
+    wq_saved (*save)(const uint8_t *, size_t, const uint8_t *, size_t, const size_t *,
+                     uint8_t *, size_t);
+    wq_loaded (*load)(const uint8_t *, size_t, uint8_t *, size_t, uint8_t *, size_t, size_t *);
+};
+static const struct side sides[SIDES] = {
+    {wq_check, wq_write, wq_book, wq_line, wq_save, wq_load},
+    {ref_check, ref_write, ref_book, ref_line, ref_save, ref_load}
+};
+
+/* A record of the file, and what reading it gives. */
+struct record {
+    const uint8_t *bytes;
+    size_t length, fixed_length, table[FULL_TABLE];
+    wq_checked checked;
+};
+
+/* A lent book. */
+struct book {
+    uint8_t lines[MOST_LINES * LINE], slips[MOST_SLIPS * SLIP];
+    size_t lines_length, slips_length, used[2];
+};
+
+/* What a row times: records of the file, or one call on a book. */
+struct task {
+    const struct record *records;
+    size_t count;
+    char text[TEXT];
+    wq_booked booked;
+};
+
+/* Makes a task's calls so many times; gives 0 where every answer is the expected one. */
+typedef uint64_t run(const struct side *side, const struct task *task, size_t rounds);
+
+/* A row of the table: nanoseconds a call of each side, the least so far (0 is none yet), and
+   the rounds that make a repetition long enough. */
+struct row {
+    const char *call;
+    char input[TEXT];
+    const struct row *smallest; /* the row of the smallest book; null without a book */
+    double nanoseconds[SIDES];
+    size_t rounds;
+};
+
+static struct record records[MOST_RECORDS];
+static struct book kept, lent, loaded;
+static uint8_t saved[SAVE_ROOM], out[SAVE_ROOM];
+static size_t saved_length;
+static struct row rows[MOST_ROWS];
+static size_t row_count;
+
+static void insist(int holds, const char *what)
+{
+    if (holds)
+        return;
+    fprintf(stderr, "bench: %s\n", what);
+    exit(1);
+}
+
+static uint64_t unlike(const wq_booked *one, const wq_booked *other)
+{
+    return (one->answer ^ other->answer) | (one->place ^ other->place)
+         | (one->ordered ^ other->ordered) | (one->filled ^ other->filled)
+         | (one->still_open ^ other->still_open) | (one->let_go ^ other->let_go)
+         | (one->extra ^ other->extra);
+}
+
+/* --- The calls that are timed --- */
+
+static uint64_t run_check(const struct side *side, const struct task *task, size_t rounds)
+{
+    static size_t table[FULL_TABLE];
+    uint64_t wrong = 0;
+    while (rounds-- > 0)
+        for (size_t i = 0; i < task->count; i++) {
+            const struct record *record = &task->records[i];
+            wq_checked got = side->check(record->bytes, record->length, table, FULL_TABLE);
+            wrong |= (got.answer ^ record->checked.answer) | (got.place ^ record->checked.place)
+                   | (got.fields ^ record->checked.fields);
+        }
+    return wrong;
+}
+
+/* A record that read well is written again from its own table. */
+static uint64_t run_write(const struct side *side, const struct task *task, size_t rounds)
+{
+    uint64_t wrong = 0;
+    while (rounds-- > 0)
+        for (size_t i = 0; i < task->count; i++) {
+            const struct record *record = &task->records[i];
+            wq_written got = side->write(record->bytes, record->fixed_length, record->table,
+                                         FULL_TABLE, (size_t)record->checked.fields,
+                                         record->bytes, record->length, out, LONGEST);
+            wrong |= got.answer | got.place | (got.length ^ record->length);
+        }
+    return wrong;
+}
+
+/* A booking changes the counts and the last line, or adds an entry past the counts: so the
+   book is put back by copying 72 bytes, which is timed on both sides alike. */
+static uint64_t run_book(const struct side *side, const struct task *task, size_t rounds)
+{
+    const uint8_t *record = (const uint8_t *)task->text;
+    size_t length = strlen(task->text), last = (kept.used[0] - 1) * LINE;
+    uint64_t wrong = 0;
+    while (rounds-- > 0) {
+        wq_booked got = side->book(record, length, lent.lines, lent.lines_length, lent.slips,
+                                   lent.slips_length, lent.used);
+        wrong |= unlike(&got, &task->booked);
+        memcpy(lent.used, kept.used, sizeof kept.used);
+        memcpy(lent.lines + last, kept.lines + last, LINE);
+    }
+    return wrong;
+}
+
+/* The call by key, of the last line. */
+static wq_booked last_line(const struct side *side)
+{
+    const uint8_t *school = kept.lines + (kept.used[0] - 1) * LINE;
+    const uint8_t *supplier = school + SUPPLIER_PLACE, *article = school + ARTICLE_PLACE;
+    return side->line(school, ADDRESS, school + ADDRESS, QUALIFIER,
+                      supplier, ADDRESS, supplier + ADDRESS, QUALIFIER,
+                      school + REFERENCE_PLACE, REFERENCE_WIDTH,
+                      article, ARTICLE, article + ARTICLE, QUALIFIER,
+                      lent.lines, lent.lines_length, lent.slips, lent.slips_length, lent.used);
+}
+
+static uint64_t run_line(const struct side *side, const struct task *task, size_t rounds)
+{
+    uint64_t wrong = 0;
+    while (rounds-- > 0) {
+        wq_booked got = last_line(side);
+        wrong |= unlike(&got, &task->booked);
+    }
+    return wrong;
+}
+
+static uint64_t run_save(const struct side *side, const struct task *task, size_t rounds)
+{
+    uint64_t wrong = 0;
+    (void)task;
+    while (rounds-- > 0) {
+        wq_saved got = side->save(lent.lines, lent.lines_length, lent.slips, lent.slips_length,
+                                  lent.used, out, SAVE_ROOM);
+        wrong |= got.answer | got.place | (got.length ^ saved_length);
+    }
+    return wrong;
+}
+
+static uint64_t run_load(const struct side *side, const struct task *task, size_t rounds)
+{
+    uint64_t wrong = 0;
+    (void)task;
+    while (rounds-- > 0) {
+        wq_loaded got = side->load(saved, saved_length, loaded.lines, kept.lines_length,
+                                   loaded.slips, kept.slips_length, loaded.used);
+        wrong |= got.answer | got.place;
+    }
+    return wrong;
+}
+
+/* --- Timing and the table --- */
+
+static uint64_t now(void)
+{
+    struct timespec time;
+    insist(clock_gettime(CLOCK_THREAD_CPUTIME_ID, &time) == 0, "no clock");
+    return (uint64_t)time.tv_sec * 1000000000u + (uint64_t)time.tv_nsec;
+}
+
+/* Times the task so often on each side and keeps the shortest time in the row; where a
+   repetition is too short, all start over with twice the rounds. */
+static void measure(run *calls, const struct task *task, struct row *row)
+{
+    uint64_t shortest[SIDES] = {UINT64_MAX, UINT64_MAX};
+    size_t rounds = row->rounds > 0 ? row->rounds : 1;
+    for (size_t turn = 0; turn < SIDES * REPETITIONS; turn++) {
+        size_t side = (turn + turn / SIDES) % SIDES;
+        uint64_t begun = now();
+        uint64_t wrong = calls(&sides[side], task, rounds);
+        uint64_t spent = now() - begun;
+        insist(wrong == 0, "a timed call gave another answer");
+        if (spent < shortest[side])
+            shortest[side] = spent;
+        if (spent < LEAST_NANOSECONDS) {
+            rounds *= 2;
+            shortest[LIBRARY] = shortest[REFERENCE] = UINT64_MAX;
+            turn = (size_t)-1;
+        }
+    }
+    row->rounds = rounds;
+    for (size_t side = 0; side < SIDES; side++) {
+        double each = (double)shortest[side] / (double)rounds / (double)task->count;
+        if (row->nanoseconds[side] == 0 || each < row->nanoseconds[side])
+            row->nanoseconds[side] = each;
+    }
+}
+
+/* Times the next row of this pass. */
+static void time_row(run *calls, const struct task *task, const char *call, const char *input,
+                     const struct row *smallest)
+{
+    struct row *row = &rows[row_count++];
+    row->call = call;
+    snprintf(row->input, sizeof row->input, "%s", input);
+    row->smallest = smallest;
+    measure(calls, task, row);
+}
+
+static double ratio_of(const struct row *row)
+{
+    return row->nanoseconds[LIBRARY] / row->nanoseconds[REFERENCE];
+}
+
+static void print_growth(const struct row *row, size_t side)
+{
+    if (row->smallest == NULL)
+        printf(" |");
+    else
+        printf(" %.1f |", row->nanoseconds[side] / row->smallest->nanoseconds[side]);
+}
+
+static void print_table(void)
+{
+    const struct row *worst = &rows[0];
+    printf("Times in nanoseconds a call; growth is the time over that in the smallest book.\n\n"
+           "| call | input | library | C | library / C | growth, library | growth, C |\n"
+           "|---|---|---:|---:|---:|---:|---:|\n");
+    for (const struct row *row = rows; row < rows + row_count; row++) {
+        printf("| %s | %s | %.1f | %.1f | %.2f |", row->call, row->input,
+               row->nanoseconds[LIBRARY], row->nanoseconds[REFERENCE], ratio_of(row));
+        print_growth(row, LIBRARY);
+        print_growth(row, REFERENCE);
+        printf("\n");
+        if (ratio_of(row) > ratio_of(worst))
+            worst = row;
+    }
+    printf("\nworst ratio %.2f (%s, %s)\n", ratio_of(worst), worst->call, worst->input);
+}
+
+/* --- Records --- */
+
+static size_t read_file(const char *name, uint8_t *bytes)
+{
+    FILE *file = fopen(name, "rb");
+    insist(file != NULL, "the file of records cannot be opened");
+    size_t length = fread(bytes, 1, FILE_ROOM, file);
+    insist(!ferror(file) && length < FILE_ROOM, "the file of records cannot be read whole");
+    fclose(file);
+    return length;
+}
+
+static size_t fixed_length_of(uint8_t kind)
+{
+    return kind == 'B' ? ORDER_LENGTH : kind == 'L' ? DELIVERY_LENGTH : REPORT_LENGTH;
+}
+
+/* Both sides read the record alike, and where it is read, write it again alike. */
+static void take_record(struct record *record, const uint8_t *bytes, size_t length)
+{
+    size_t table[FULL_TABLE] = {0};
+    record->bytes = bytes;
+    record->length = length;
+    record->fixed_length = length > 0 ? fixed_length_of(bytes[0]) : 0;
+    record->checked = ref_check(bytes, length, record->table, FULL_TABLE);
+    wq_checked got = wq_check(bytes, length, table, FULL_TABLE);
+    insist(memcmp(&got, &record->checked, sizeof got) == 0
+           && memcmp(table, record->table, sizeof table) == 0, "a record is read differently");
+    insist(got.answer == ANSWER_DONE, "the file holds a record that is refused");
+    const struct task task = {record, 1, "", {0, 0, 0, 0, 0, 0, 0}};
+    for (size_t side = 0; side < SIDES; side++) {
+        memset(out, 0, LONGEST);
+        insist(run_write(&sides[side], &task, 1) == 0 && memcmp(out, bytes, length) == 0,
+               "a record is not written as it was read");
+    }
+}
+
+/* The records between the line ends; gives their number. */
+static size_t take_records(const uint8_t *bytes, size_t length)
+{
+    size_t count = 0, begin = 0;
+    for (size_t i = 0; i + 1 < length; i++)
+        if (bytes[i] == '\r' && bytes[i + 1] == '\n') {
+            insist(count < MOST_RECORDS, "too many records");
+            take_record(&records[count++], bytes + begin, i - begin);
+            begin = i + 2;
+        }
+    insist(count > 0 && begin == length, "the file is not records that end with CR LF");
+    return count;
+}
+
+/* All records in turn, then each alone. */
+static void time_records(run *calls, const char *call, size_t count)
+{
+    char input[TEXT];
+    struct task task = {records, count, "", {0, 0, 0, 0, 0, 0, 0}};
+    snprintf(input, sizeof input, "all %zu records in turn", count);
+    time_row(calls, &task, call, input, NULL);
+    task.count = 1;
+    for (size_t i = 0; i < count; i++) {
+        task.records = &records[i];
+        snprintf(input, sizeof input, "record %zu: %.4s, %zu bytes, %" PRIu64 " fields", i + 1,
+                 (const char *)records[i].bytes, records[i].length, records[i].checked.fields);
+        time_row(calls, &task, call, input, NULL);
+    }
+}
+
+/* --- Books --- */
+
+/* One school, one supplier: keys differ late, as at a desk. */
+static void order_text(char *text, size_t line)
+{
+    snprintf(text, TEXT, "B10143210     VD24000     VD20240219R%06zu   9783442756841EN"
+             "0010ST*9999", line);
+}
+
+static void delivery_text(char *text, size_t line, size_t slip)
+{
+    snprintf(text, TEXT, "L10124000     VD43210     VD20240226%08zu  %04zuR%06zu   "
+             "9783442756841EN0004000000000129500LPEUR003000001*9999",
+             70000000 + slip / POSITIONS_ON_A_SLIP, 1 + slip % POSITIONS_ON_A_SLIP, line);
+}
+
+static void report_text(char *text, size_t line)
+{
+    snprintf(text, TEXT, "M10124000     VD43210     VD70012345  R%06zu   9783442756841EN"
+             "010N        0000*9999", line);
+}
+
+static wq_booked book_into(struct book *book, const struct side *side, const char *text)
+{
+    return side->book((const uint8_t *)text, strlen(text), book->lines, book->lines_length,
+                      book->slips, book->slips_length, book->used);
+}
+
+/* A book made by bookings: all lines but one, two slips on each, one slip more on the last;
+   one entry of each room stays free. */
+static void stock(size_t lines)
+{
+    char text[TEXT];
+    memset(&kept, 0, sizeof kept);
+    kept.lines_length = lines * LINE;
+    kept.slips_length = 2 * lines * SLIP;
+    for (size_t line = 0; line + 1 < lines; line++) {
+        order_text(text, line);
+        insist(book_into(&kept, &sides[REFERENCE], text).answer == ANSWER_DONE, "no order");
+    }
+    for (size_t slip = 0; slip + 1 < 2 * lines; slip++) {
+        size_t line = slip / 2 < lines - 1 ? slip / 2 : lines - 2;
+        delivery_text(text, line, slip);
+        insist(book_into(&kept, &sides[REFERENCE], text).answer == ANSWER_DONE, "no delivery");
+    }
+    insist(kept.used[0] == lines - 1 && kept.used[1] == 2 * lines - 1, "the book's counts");
+    lent = kept;
+}
+
+/* Both sides save the book alike, and load it again as it was. */
+static void agree_on_saves(void)
+{
+    wq_saved first = ref_save(kept.lines, kept.lines_length, kept.slips, kept.slips_length,
+                              kept.used, saved, SAVE_ROOM);
+    wq_saved second = wq_save(kept.lines, kept.lines_length, kept.slips, kept.slips_length,
+                              kept.used, out, SAVE_ROOM);
+    saved_length = (size_t)first.length;
+    insist(memcmp(&first, &second, sizeof first) == 0 && first.answer == ANSWER_DONE
+           && memcmp(saved, out, saved_length) == 0, "the book is saved differently");
+    for (size_t side = 0; side < SIDES; side++) {
+        memset(&loaded, 0, sizeof loaded);
+        loaded.lines_length = kept.lines_length;
+        loaded.slips_length = kept.slips_length;
+        insist(run_load(&sides[side], NULL, 1) == 0
+               && memcmp(&loaded, &kept, sizeof kept) == 0, "the book is loaded differently");
+    }
+}
+
+/* Both sides give this answer and leave the same book behind. */
+static void expect(struct task *task, uint64_t answer)
+{
+    static struct book after[SIDES];
+    for (size_t side = 0; side < SIDES; side++) {
+        after[side] = kept;
+        wq_booked got = book_into(&after[side], &sides[side], task->text);
+        insist(side == 0 || unlike(&got, &task->booked) == 0, "a record is booked differently");
+        task->booked = got;
+    }
+    insist(task->booked.answer == answer, "a booking has not the answer its row needs");
+    insist(memcmp(&after[LIBRARY], &after[REFERENCE], sizeof kept) == 0,
+           "the sides leave different books");
+}
+
+static struct task delivery_task(void)
+{
+    struct task task = {NULL, 1, "", {0, 0, 0, 0, 0, 0, 0}};
+    delivery_text(task.text, kept.used[0] - 1, kept.used[1]);
+    expect(&task, ANSWER_DONE);
+    return task;
+}
+
+static struct task repeated_task(void)
+{
+    struct task task = {NULL, 1, "", {0, 0, 0, 0, 0, 0, 0}};
+    delivery_text(task.text, kept.used[0] - 1, kept.used[1] - 1);
+    expect(&task, ANSWER_REPEATED);
+    return task;
+}
+
+static struct task order_task(void)
+{
+    struct task task = {NULL, 1, "", {0, 0, 0, 0, 0, 0, 0}};
+    order_text(task.text, kept.used[0]);
+    expect(&task, ANSWER_DONE);
+    return task;
+}
+
+static struct task report_task(void)
+{
+    struct task task = {NULL, 1, "", {0, 0, 0, 0, 0, 0, 0}};
+    report_text(task.text, kept.used[0] - 1);
+    expect(&task, ANSWER_DONE);
+    return task;
+}
+
+static struct task line_task(void)
+{
+    struct task task = {NULL, 1, "", {0, 0, 0, 0, 0, 0, 0}};
+    task.booked = last_line(&sides[REFERENCE]);
+    insist(task.booked.answer == ANSWER_DONE, "the last line has no figures");
+    return task;
+}
+
+static struct task save_task(void)
+{
+    struct task task = {NULL, 1, "", {0, 0, 0, 0, 0, 0, 0}};
+    agree_on_saves();
+    return task;
+}
+
+/* The rows of a book, each in books of all sizes. */
+static const struct { const char *call; run *calls; struct task (*task)(void); }
+book_rows[BOOK_ROWS] = {
+    {"book, delivery accepted", run_book, delivery_task},
+    {"book, delivery repeated (17)", run_book, repeated_task},
+    {"book, order accepted", run_book, order_task},
+    {"book, report accepted", run_book, report_task},
+    {"line", run_line, line_task},
+    {"save", run_save, save_task},
+    {"load", run_load, save_task}
+};
+
+static void time_books(size_t which)
+{
+    char input[TEXT];
+    const struct row *smallest = &rows[row_count];
+    for (size_t i = 0; i < SIZES; i++) {
+        stock(sizes[i]);
+        struct task task = book_rows[which].task();
+        snprintf(input, sizeof input, "%zu lines, %zu slips", sizes[i], 2 * sizes[i]);
+        time_row(book_rows[which].calls, &task, book_rows[which].call, input, smallest);
+        insist(memcmp(lent.used, kept.used, sizeof kept.used) == 0
+               && memcmp(lent.lines, kept.lines, kept.used[0] * LINE) == 0
+               && memcmp(lent.slips, kept.slips, kept.used[1] * SLIP) == 0,
+               "the timed calls changed the book");
+    }
+}
+
+int main(int count, char **arguments)
+{
+    static uint8_t bytes[FILE_ROOM];
+    insist(count == 2, "usage: bench FILE");
+    size_t taken = take_records(bytes, read_file(arguments[1], bytes));
+    for (size_t pass = 0; pass < PASSES; pass++) {
+        row_count = 0;
+        time_records(run_check, "check", taken);
+        time_records(run_write, "write", taken);
+        for (size_t i = 0; i < BOOK_ROWS; i++)
+            time_books(i);
+    }
+    print_table();
+    return 0;
+}

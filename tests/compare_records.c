@@ -1,0 +1,526 @@
+/* Cases for check and write: valid records, every damage, every limit. */
+#include "lending.h"
+
+#include <string.h>
+
+static const uint8_t odd_bytes[] = {
+    0, 10, 13, 31, 32, '*', '+', ':', '?', '\'', '0', '1', '2', '3', '6', '9', '/', ';', '@',
+    'A', 'B', 'J', 'L', 'M', 'N', 'U', 'X', 'Z', '[', 'x', 126, 127, 128, 159, 160, 255
+};
+
+static uint8_t odd_byte(struct dice *dice, uint8_t byte)
+{
+    switch (below(dice, 8)) {
+    case 0: return (uint8_t)(byte + 1);
+    case 1: return (uint8_t)(byte - 1);
+    case 2: return (uint8_t)roll(dice);
+    case 3: return (uint8_t)(byte ^ 0x80);
+    default: return odd_bytes[below(dice, sizeof odd_bytes)];
+    }
+}
+
+static uint64_t check(const uint8_t *record, size_t length)
+{
+    return both_check(record, length, IN_FULL_TABLE);
+}
+
+static uint64_t check_sheet(const struct sheet *sheet)
+{
+    uint8_t record[RECORD_ROOM];
+    return check(record, assemble(sheet, record));
+}
+
+/* A record cut at every length, with a byte damaged, taken out or put in at every place. */
+static void damage_record(struct dice *dice, enum shape shape)
+{
+    enum { VALUES = 5 };
+    struct sheet sheet;
+    uint8_t record[RECORD_ROOM], damaged[RECORD_ROOM];
+    make_sheet(dice, &sheet, shape, 6);
+    size_t length = assemble(&sheet, record);
+    insist(length > IN_LONGEST || check(record, length) == 0, "a generated record is valid");
+    for (size_t place = 0; place < length; place++) {
+        memcpy(damaged, record, length);
+        check(record, place);
+        for (size_t i = 0; i < VALUES; i++) {
+            damaged[place] = odd_byte(dice, record[place]);
+            check(damaged, length);
+        }
+        memmove(damaged + place, record + place + 1, length - place - 1);
+        check(damaged, length - 1);
+        memcpy(damaged + place + 1, record + place, length - place);
+        damaged[place] = odd_byte(dice, record[place]);
+        check(damaged, length + 1);
+    }
+}
+
+/* Two faults at once show the order of the answers. */
+static void damage_twice(struct dice *dice)
+{
+    struct sheet sheet;
+    uint8_t record[RECORD_ROOM], damaged[RECORD_ROOM];
+    make_sheet(dice, &sheet, (enum shape)below(dice, SHAPES), 6);
+    size_t length = assemble(&sheet, record);
+    for (size_t i = 0; i < 100; i++) {
+        memcpy(damaged, record, length);
+        for (size_t faults = between(dice, 2, 3); faults > 0; faults--) {
+            size_t place = below(dice, length);
+            damaged[place] = odd_byte(dice, damaged[place]);
+        }
+        check(damaged, chance(dice, 9) ? below(dice, length) : length);
+    }
+}
+
+/* Bytes without sense, and valid fixed parts followed by little sense. */
+static void check_nonsense(struct dice *dice)
+{
+    static const char few[] = "**1029901X9 J";
+    static const char *const kinds[] = {"B101", "L101", "M101", "T101", "b101", "B102"};
+    struct sheet sheet;
+    uint8_t record[RECORD_ROOM];
+    for (size_t i = 0; i < 300; i++) {
+        size_t length = below(dice, chance(dice, 10) ? 2000 : 200);
+        for (size_t j = 0; j < length; j++)
+            record[j] = (uint8_t)(chance(dice, 2) ? roll(dice) : between(dice, 32, 90));
+        if (length >= 4 && chance(dice, 2))
+            memcpy(record, kinds[below(dice, 6)], 4);
+        check(record, length);
+    }
+    make_sheet(dice, &sheet, (enum shape)below(dice, SHAPES), 2);
+    for (size_t i = 0; i < 500; i++) {
+        size_t length = assemble(&sheet, record) - (chance(dice, 2) ? 5 : 0);
+        for (size_t more = below(dice, 20); more > 0; more--)
+            record[length++] = (uint8_t)few[below(dice, sizeof few - 1)];
+        if (chance(dice, 2)) {
+            memcpy(record + length, "*9999", 5);
+            length += 5;
+        }
+        check(record, length);
+    }
+}
+
+/* A content of each class, for each listed ID and its neighbours, at every length. */
+static void fill_content(struct dice *dice, size_t class, uint8_t *content, size_t length)
+{
+    static const char few[] = "0123JNUPHYDIGX?'+: ";
+    for (size_t i = 0; i < length; i++)
+        switch (class) {
+        case 0: content[i] = (uint8_t)between(dice, '0', '9'); break;
+        case 1: content[i] = (uint8_t)between(dice, 'A', 'Z'); break;
+        case 2: content[i] = (uint8_t)few[below(dice, sizeof few - 1)]; break;
+        default:
+            content[i] = (uint8_t)(chance(dice, 3) ? between(dice, 160, 255)
+                                                   : between(dice, 43, 126));
+        }
+}
+
+static void check_contents(struct dice *dice)
+{
+    enum { LONGEST_CONTENT = 43, CLASSES = 4 };
+    struct sheet sheet;
+    uint8_t content[LONGEST_CONTENT];
+    for (size_t i = 0; i < listed_count; i++)
+        for (size_t length = 0; length < LONGEST_CONTENT; length++)
+            for (size_t class = 0; class < CLASSES; class++) {
+                size_t id = listed_ids[i];
+                if (length > 16 && class > 0 && chance(dice, 2))
+                    continue;
+                if (chance(dice, 10))
+                    id = chance(dice, 2) ? id + 1 : id - 1;
+                make_sheet(dice, &sheet, (enum shape)below(dice, SHAPES), 1);
+                fill_content(dice, class, content, length);
+                add_with_group(dice, &sheet, id, content, length);
+                check_sheet(&sheet);
+            }
+}
+
+/* The bytes barred in a B101, in its reference and four of its fields; not elsewhere. */
+static void check_barred(struct dice *dice)
+{
+    static const char barred[] = "*+:?'";
+    static const size_t ids[] = {1001, 1003, 1051, 9010, 1017, 1101, 1009, 9001, 4711};
+    struct sheet sheet;
+    for (size_t shape = 0; shape < SHAPES; shape++)
+        for (size_t i = 0; i < 5; i++) {
+            uint8_t content[3] = {'a', 'b', 'c'};
+            size_t reference = shape == ORDER_SHAPE ? 36 : shape == REPORT_SHAPE ? 38 : 50;
+            make_sheet(dice, &sheet, (enum shape)shape, 1);
+            sheet.fixed[reference] = 'R';
+            sheet.fixed[reference + below(dice, 10)] = (uint8_t)barred[i];
+            check_sheet(&sheet);
+            for (size_t j = 0; j < sizeof ids / sizeof ids[0]; j++) {
+                size_t length = ids[j] == 9001 ? 1 : 3;
+                make_sheet(dice, &sheet, (enum shape)shape, 1);
+                memcpy(content, "abc", 3);
+                content[below(dice, length)] = (uint8_t)barred[i];
+                add_with_group(dice, &sheet, ids[j], content, length);
+                check_sheet(&sheet);
+            }
+        }
+}
+
+/* 1203: every number of one to three digits. */
+static void check_days_to_pay(struct dice *dice)
+{
+    struct sheet sheet;
+    for (size_t width = 1, bound = 10; width <= 3; width++, bound *= 10)
+        for (size_t days = 0; days < bound; days++) {
+            uint8_t content[3];
+            put_digits(content, width, days);
+            make_sheet(dice, &sheet, REPORT_SHAPE, 0);
+            add_with_group(dice, &sheet, 1203, content, width);
+            check_sheet(&sheet);
+        }
+}
+
+static void check_day(struct dice *dice, size_t year, size_t month, size_t day)
+{
+    struct sheet sheet;
+    uint8_t date[8];
+    put_digits(date, 4, year);
+    put_digits(date + 4, 2, month);
+    put_digits(date + 6, 2, day);
+    size_t where = below(dice, 4);
+    make_sheet(dice, &sheet, where == 0 ? ORDER_SHAPE : where == 1 ? GOODS_SHAPE
+                           : REPORT_SHAPE, 0);
+    if (where < 3)
+        memcpy(sheet.fixed + (where == 2 ? 67 : 28), date, 8);
+    else
+        add_with_group(dice, &sheet, 1201, date, 8);
+    check_sheet(&sheet);
+}
+
+/* The ends of every month in the years where rules meet. */
+static void check_days(struct dice *dice)
+{
+    static const size_t years[] = {0, 1, 4, 100, 200, 400, 1582, 1600, 1700, 1900, 2000,
+                                   2023, 2024, 2100, 2400, 9900, 9996, 9999};
+    static const size_t days[] = {0, 1, 28, 29, 30, 31, 32, 99};
+    for (size_t i = 0; i < 22; i++) {
+        size_t year = i < 18 ? years[i] : below(dice, 10000);
+        for (size_t month = 0; month <= 13; month++)
+            for (size_t j = 0; j < 8; j++)
+                check_day(dice, year, month, days[j]);
+    }
+}
+
+/* Articles of all qualifiers, right and with a character or two changed. */
+static void check_articles(struct dice *dice)
+{
+    static const char few[] = "0123456789Xx A";
+    static const char *const qualifiers[] = {"EN", "IB", "KN", "UM", "RK", "  ", "XX", "EX"};
+    struct sheet sheet;
+    for (size_t i = 0; i < 1500; i++) {
+        enum shape shape = (enum shape)below(dice, SHAPES);
+        make_sheet(dice, &sheet, shape, 0);
+        if (shape == CLOSING_SHAPE)
+            continue;
+        uint8_t *article = sheet.fixed + (shape == ORDER_SHAPE ? 46
+                                        : shape == REPORT_SHAPE ? 48 : 60);
+        make_article(dice, article);
+        for (size_t changes = below(dice, 3); changes > 0; changes--)
+            article[below(dice, 13)] = (uint8_t)few[below(dice, sizeof few - 1)];
+        if (chance(dice, 8))
+            memcpy(article + 13, qualifiers[below(dice, 8)], 2);
+        check_sheet(&sheet);
+    }
+}
+
+/* An X at every place of an ISBN, with every last character, so that some check would
+   hold however the X is counted. */
+static void check_isbn_x(struct dice *dice)
+{
+    static const char lasts[] = "0123456789Xx ";
+    struct sheet sheet;
+    for (size_t place = 0; place < 10; place++)
+        for (size_t i = 0; i < sizeof lasts - 1; i++) {
+            make_sheet(dice, &sheet, ORDER_SHAPE, 0);
+            uint8_t *article = sheet.fixed + 46;
+            memset(article, ' ', 13);
+            put_digits(article, 9, below(dice, 1000000000));
+            article[9] = (uint8_t)lasts[i];
+            if (place < 9)
+                article[place] = 'X';
+            memcpy(article + 13, "IB", 2);
+            check_sheet(&sheet);
+        }
+    for (size_t digits = 0; digits < 200; digits++) {
+        make_sheet(dice, &sheet, ORDER_SHAPE, 0);
+        uint8_t *article = sheet.fixed + 46;
+        memcpy(article, "344275688X   IB", 15);
+        put_digits(article + 7, 2, digits % 100);
+        article[9] = digits < 100 ? 'X' : 'x';
+        check_sheet(&sheet);
+    }
+}
+
+/* Groups whole, broken and repeated, among contents right and wrong. */
+static void check_groups(struct dice *dice)
+{
+    static const size_t ids[] = {1017, 1018, 1029, 1030, 1032, 1101, 1102, 1107, 1108, 1113,
+                                 1114, 1115, 1116, 1201, 1202, 1203, 1204, 1031, 8888};
+    struct sheet sheet;
+    for (size_t i = 0; i < 1500; i++) {
+        make_sheet(dice, &sheet, (enum shape)below(dice, SHAPES), 0);
+        size_t id = ids[below(dice, 19)];
+        for (size_t count = between(dice, 1, 6); count > 0; count--) {
+            if (chance(dice, 12))
+                add_field(&sheet, id, (const uint8_t *)"~~", below(dice, 3));
+            else
+                add_valid_field(dice, &sheet, id);
+            id = chance(dice, 4) || group_next(id) == 0 ? ids[below(dice, 19)]
+                                                        : group_next(id);
+        }
+        check_sheet(&sheet);
+    }
+}
+
+/* Around 64 fields, with every kind of end. */
+static void check_field_limit(struct dice *dice)
+{
+    static const char *const ends[] = {"*9999", "", "*", "*99", "*999x", "*9999*9999",
+                                       "*9999x", "*0000", "*0000*9999", "*1003*9999"};
+    struct sheet sheet;
+    uint8_t record[RECORD_ROOM];
+    for (size_t count = 62; count <= 66; count++)
+        for (size_t shape = 0; shape < SHAPES; shape++)
+            for (size_t i = 0; i < sizeof ends / sizeof ends[0]; i++) {
+                make_sheet(dice, &sheet, (enum shape)shape, 0);
+                for (size_t j = 0; j < count; j++)
+                    add_field(&sheet, below(dice, 1000), (const uint8_t *)"7", below(dice, 2));
+                size_t length = assemble(&sheet, record) - 5;
+                memcpy(record + length, ends[i], strlen(ends[i]));
+                check(record, length + strlen(ends[i]));
+            }
+}
+
+/* Records of 1,020 to 1,028 bytes and much longer, right and wrong. */
+static void check_length_limit(struct dice *dice)
+{
+    struct sheet sheet;
+    uint8_t record[RECORD_ROOM], content[RECORD_ROOM];
+    memset(content, 'c', sizeof content);
+    for (size_t shape = 0; shape < SHAPES; shape++)
+        for (size_t wanted = 1018; wanted <= 1030; wanted++) {
+            make_sheet(dice, &sheet, (enum shape)shape, 2);
+            size_t length = assemble(&sheet, record);
+            add_field(&sheet, 8888, content, wanted - length - 5);
+            length = assemble(&sheet, record);
+            insist(length == wanted, "a record has the wanted length");
+            check(record, length);
+            record[below(dice, 4)] = 'x';
+            check(record, length);
+        }
+    for (size_t i = 0; i < 40; i++) {
+        size_t length = between(dice, 1025, 8000);
+        memset(record, (int)between(dice, 0, 255), length);
+        if (chance(dice, 2))
+            memcpy(record, "L101", 4);
+        check(record, length);
+    }
+}
+
+static void check_small_tables(struct dice *dice)
+{
+    static const size_t lengths[] = {0, 1, 2, 3, 64, 189, 190, 191, 192, 193, 400};
+    struct sheet sheet;
+    uint8_t record[RECORD_ROOM];
+    for (size_t i = 0; i < sizeof lengths / sizeof lengths[0]; i++)
+        for (size_t j = 0; j < 8; j++) {
+            make_sheet(dice, &sheet, (enum shape)below(dice, SHAPES), 3);
+            size_t length = assemble(&sheet, record);
+            if (j % 2)
+                record[below(dice, length)] = odd_byte(dice, 'x');
+            both_check(record, j == 7 ? 0 : length, lengths[i]);
+        }
+}
+
+static uint64_t write_sheet(const struct sheet *sheet, uint8_t *out, size_t out_length)
+{
+    size_t table_length = sheet->count > SHEET_FIELDS ? 3 * SHEET_FIELDS : 3 * sheet->count;
+    return both_write(sheet, sheet->fixed_length, table_length, sheet->contents_length,
+                      out, out_length);
+}
+
+/* A valid sheet is written as assembled, into outputs of all sizes near its own. */
+static void write_valid(struct dice *dice, enum shape shape)
+{
+    struct sheet sheet;
+    uint8_t record[RECORD_ROOM], out[RECORD_ROOM];
+    make_sheet(dice, &sheet, shape, 8);
+    size_t length = assemble(&sheet, record);
+    for (size_t room = length - 3; room <= length + 3; room++) {
+        uint64_t answer = write_sheet(&sheet, out, room);
+        if (length <= IN_LONGEST)
+            insist(answer == (room < length ? 23 : 0), "a valid sheet is written where it fits");
+        if (answer == 0)
+            insist(memcmp(out, record, length) == 0, "the record written is as assembled");
+    }
+    write_sheet(&sheet, out, 0);
+    write_sheet(&sheet, out, RECORD_ROOM);
+}
+
+/* The fixed part damaged at every byte, and of every length. */
+static void write_bad_fixed(struct dice *dice, enum shape shape)
+{
+    struct sheet sheet, damaged;
+    uint8_t out[RECORD_ROOM];
+    make_sheet(dice, &sheet, shape, 2);
+    for (size_t place = 0; place < sheet.fixed_length; place++)
+        for (size_t i = 0; i < 3; i++) {
+            damaged = sheet;
+            damaged.fixed[place] = odd_byte(dice, sheet.fixed[place]);
+            if (chance(dice, 4))
+                damaged.fixed[below(dice, sheet.fixed_length)] = (uint8_t)roll(dice);
+            if (chance(dice, 8))
+                damaged.count = 65 + below(dice, 3);
+            write_sheet(&damaged, out, IN_LONGEST);
+        }
+    damaged = sheet;
+    memset(damaged.fixed + sheet.fixed_length, '0', sizeof damaged.fixed - sheet.fixed_length);
+    for (size_t length = 0; length <= sizeof damaged.fixed; length++)
+        both_write(&damaged, length, 3 * sheet.count, sheet.contents_length, out, IN_LONGEST);
+}
+
+/* An entry that says too much: IDs of 9999 and more, places and lengths that would wrap. */
+static void spoil_entry(struct dice *dice, struct sheet *sheet, size_t index)
+{
+    const size_t huge[] = {SIZE_MAX, SIZE_MAX - 1, SIZE_MAX / 2, SIZE_MAX / 2 + 1,
+                           (size_t)1 << 31, 0xffffffffu, 65536, 1025, 1024};
+    const size_t ids[] = {9998, 9999, 10000, 10001, 11003, 65536 + 1003, SIZE_MAX, 0};
+    size_t *entry = sheet->table + 3 * index;
+    switch (below(dice, 7)) {
+    case 0: entry[0] = ids[below(dice, 8)]; break;
+    case 1: entry[1] = huge[below(dice, 9)]; break;
+    case 2: entry[2] = huge[below(dice, 9)]; break;
+    case 3: entry[1] = SIZE_MAX - entry[2] + below(dice, 3); break;
+    case 4: entry[2] = SIZE_MAX - entry[1] + below(dice, 3); break;
+    case 5: entry[1] = sheet->contents_length - entry[2] + below(dice, 3); break;
+    default:
+        entry[1] = sheet->contents_length + below(dice, 2);
+        entry[2] = below(dice, 2);
+    }
+}
+
+static void write_bad_tables(struct dice *dice)
+{
+    struct sheet sheet, damaged;
+    uint8_t out[RECORD_ROOM];
+    make_sheet(dice, &sheet, (enum shape)below(dice, SHAPES), 5);
+    add_some_fields(dice, &sheet, 3);
+    add_valid_field(dice, &sheet, 8888);
+    for (size_t i = 0; i < 150; i++) {
+        damaged = sheet;
+        for (size_t faults = between(dice, 1, 2); faults > 0; faults--)
+            spoil_entry(dice, &damaged, below(dice, sheet.count));
+        write_sheet(&damaged, out, chance(dice, 4) ? below(dice, IN_LONGEST) : IN_LONGEST);
+    }
+    for (size_t i = 0; i < 100; i++) {
+        size_t place = below(dice, sheet.contents_length);
+        damaged = sheet;
+        damaged.contents[place] = odd_byte(dice, sheet.contents[place]);
+        write_sheet(&damaged, out, IN_LONGEST);
+    }
+    for (size_t length = 0; length <= sheet.contents_length; length++)
+        both_write(&sheet, sheet.fixed_length, 3 * sheet.count, length, out, IN_LONGEST);
+}
+
+/* Tables under and over their count, and counts past 64. */
+static void write_bad_counts(struct dice *dice)
+{
+    const size_t counts[] = {63, 64, 65, 66, 80, SIZE_MAX, SIZE_MAX / 3, SIZE_MAX / 3 + 1,
+                             SIZE_MAX / 3 + 2};
+    struct sheet sheet;
+    uint8_t out[RECORD_ROOM];
+    make_sheet(dice, &sheet, (enum shape)below(dice, SHAPES), 0);
+    for (size_t i = 0; i < SHEET_FIELDS; i++)
+        add_field(&sheet, 1 + below(dice, 900), (const uint8_t *)"xyz", below(dice, 3));
+    for (size_t i = 0; i < sizeof counts / sizeof counts[0]; i++) {
+        sheet.count = counts[i];
+        for (size_t length = 189; length <= 198; length++)
+            both_write(&sheet, sheet.fixed_length, length, sheet.contents_length, out,
+                       IN_LONGEST);
+        both_write(&sheet, sheet.fixed_length, 0, sheet.contents_length, out, IN_LONGEST);
+    }
+    for (size_t count = 0; count < 5; count++) {
+        sheet.count = count;
+        if (chance(dice, 2))
+            sheet.table[0] = 9999;
+        for (size_t length = 0; length <= 16; length++)
+            both_write(&sheet, sheet.fixed_length, length, sheet.contents_length, out,
+                       IN_LONGEST);
+    }
+}
+
+/* Any IDs in any order with contents mostly right: 9 and 10 by field. */
+static void write_groups(struct dice *dice)
+{
+    static const size_t ids[] = {1017, 1018, 1029, 1030, 1032, 1101, 1102, 1203, 1204, 1003,
+                                 8888, 9999, 11018};
+    struct sheet sheet;
+    uint8_t out[RECORD_ROOM];
+    for (size_t i = 0; i < 400; i++) {
+        make_sheet(dice, &sheet, (enum shape)below(dice, SHAPES), 0);
+        size_t id = ids[below(dice, 11)];
+        for (size_t count = between(dice, 1, 5); count > 0; count--) {
+            add_valid_field(dice, &sheet, id);
+            id = chance(dice, 4) || group_next(id) == 0 ? ids[below(dice, 13)]
+                                                        : group_next(id);
+        }
+        write_sheet(&sheet, out, chance(dice, 6) ? 60 : IN_LONGEST);
+    }
+}
+
+/* Whole records around 1,024 bytes, from one content or from many that share bytes. */
+static void write_length_limit(struct dice *dice)
+{
+    struct sheet sheet;
+    uint8_t record[RECORD_ROOM], out[RECORD_ROOM], content[IN_LONGEST + 9];
+    memset(content, 'c', sizeof content);
+    for (size_t wanted = 1020; wanted <= 1028; wanted++)
+        for (size_t shape = 0; shape < SHAPES; shape++) {
+            make_sheet(dice, &sheet, (enum shape)shape, 2);
+            add_field(&sheet, 8888, content, wanted - assemble(&sheet, record) - 5);
+            for (size_t room = 1022; room <= 1026; room++)
+                write_sheet(&sheet, out, room);
+            write_sheet(&sheet, out, wanted - 1);
+        }
+    for (size_t i = 0; i < 20; i++) {
+        make_sheet(dice, &sheet, (enum shape)below(dice, SHAPES), 0);
+        for (size_t count = between(dice, 2, 64); count > 0; count--) {
+            add_field(&sheet, 7000, content, 0);
+            sheet.table[3 * sheet.count - 2] = below(dice, 3);
+            sheet.table[3 * sheet.count - 1] = 1000 + below(dice, 25);
+        }
+        memset(sheet.contents, 'c', 1100);
+        both_write(&sheet, sheet.fixed_length, 3 * sheet.count, 1020, out, 2000);
+    }
+}
+
+void compare_records(struct dice *dice)
+{
+    for (size_t shape = 0; shape < SHAPES; shape++) {
+        damage_record(dice, (enum shape)shape);
+        for (size_t i = 0; i < 20; i++)
+            write_valid(dice, (enum shape)shape);
+        write_bad_fixed(dice, (enum shape)shape);
+    }
+    for (size_t i = 0; i < 10; i++) {
+        damage_twice(dice);
+        write_bad_tables(dice);
+        write_bad_counts(dice);
+    }
+    check_nonsense(dice);
+    check_contents(dice);
+    check_barred(dice);
+    check_days_to_pay(dice);
+    check_days(dice);
+    check_articles(dice);
+    check_isbn_x(dice);
+    check_groups(dice);
+    check_field_limit(dice);
+    check_length_limit(dice);
+    check_small_tables(dice);
+    write_groups(dice);
+    write_length_limit(dice);
+}

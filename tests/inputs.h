@@ -1,0 +1,78 @@
+/* Generated inputs: records of all kinds, lent books and saved books. */
+#ifndef INPUTS_H
+#define INPUTS_H
+
+#include "../include/wizqamul.h"
+
+enum {
+    /* widths of document 01, stated here a second time on purpose */
+    IN_PARTY = 12, IN_KEY = 49, IN_LINE = 56, IN_SLIP_KEY = 46, IN_SLIP = 50,
+    IN_SAVED_LINE = 53, IN_SAVED_SLIP = 51, IN_SAVED_END = 5,
+    IN_FULL_TABLE = 192, IN_LONGEST = 1024,
+    SHEET_FIELDS = 80, SHEET_CONTENTS = 8192, RECORD_ROOM = 9000,
+    SHELF_LINES = 514, SHELF_SLIPS = 1026,
+    SAVE_ROOM = 200000
+};
+
+/* A small generator of random numbers with a fixed course. */
+struct dice { uint64_t state; };
+
+uint64_t roll(struct dice *dice);
+size_t below(struct dice *dice, size_t bound);
+size_t between(struct dice *dice, size_t least, size_t most);
+int chance(struct dice *dice, size_t one_in);
+
+/* A record in parts, as wq_write takes them. */
+struct sheet {
+    uint8_t fixed[120];
+    size_t fixed_length;
+    size_t count, table[3 * SHEET_FIELDS];
+    uint8_t contents[SHEET_CONTENTS];
+    size_t contents_length;
+};
+
+/* A lent book: rooms in bytes, and the used counts. */
+struct shelf {
+    uint8_t lines[SHELF_LINES * IN_LINE], slips[SHELF_SLIPS * IN_SLIP];
+    size_t lines_length, slips_length, used[2];
+};
+
+enum shape { ORDER_SHAPE, GOODS_SHAPE, ADVANCE_SHAPE, CLOSING_SHAPE, REPORT_SHAPE, SHAPES };
+
+extern const size_t listed_ids[];
+extern const size_t listed_count;
+
+/* Keys come from a small pool (variety 1 to 4 of each field), or are all random (0). */
+void make_day(struct dice *dice, uint8_t *date);
+void make_article(struct dice *dice, uint8_t *article_and_qualifier);
+void make_line_key(struct dice *dice, size_t variety, uint8_t *key);
+void make_slip_part(struct dice *dice, size_t variety, uint8_t *date_number_position);
+void put_digits(uint8_t *to, size_t width, size_t number);
+void put_little(uint8_t *to, size_t width, uint64_t number);
+
+/* Fixed parts. */
+void make_fixed(struct dice *dice, struct sheet *sheet, enum shape shape,
+                const uint8_t *key, size_t copies);
+
+/* Optional fields, each valid by itself; whole groups; and any mixture. */
+size_t make_content(struct dice *dice, size_t id, int order, uint8_t *content);
+void add_field(struct sheet *sheet, size_t id, const uint8_t *content, size_t length);
+void add_valid_field(struct dice *dice, struct sheet *sheet, size_t id);
+size_t group_next(size_t id);
+size_t group_previous(size_t id);
+void add_with_group(struct dice *dice, struct sheet *sheet, size_t id,
+                    const uint8_t *content, size_t length);
+void add_some_fields(struct dice *dice, struct sheet *sheet, size_t most);
+void make_sheet(struct dice *dice, struct sheet *sheet, enum shape shape, size_t most);
+size_t assemble(const struct sheet *sheet, uint8_t *record);
+
+/* Books and saves. */
+void make_shelf(struct dice *dice, struct shelf *shelf, size_t line_room, size_t slip_room);
+void stock_shelf(struct dice *dice, struct shelf *shelf, size_t lines, size_t slips,
+                 size_t variety);
+void stock_unique(struct dice *dice, struct shelf *shelf, size_t lines, size_t slips);
+void unique_line_key(uint8_t *key, size_t number);
+size_t make_save(struct dice *dice, uint8_t *saved, size_t lines, size_t slips,
+                 size_t copies);
+
+#endif

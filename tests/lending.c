@@ -1,0 +1,389 @@
+/* Lends the same memory to both implementations and compares everything they leave. */
+#include "lending.h"
+#include "reference.h"
+
+#include <inttypes.h>
+#include <stdio.h>
+#include <stdlib.h>
+#include <string.h>
+
+#if defined(__SANITIZE_ADDRESS__)
+#include <sanitizer/asan_interface.h>
+#define HIDE(bytes, length) ASAN_POISON_MEMORY_REGION(bytes, length)
+#define SHOW(bytes, length) ASAN_UNPOISON_MEMORY_REGION(bytes, length)
+#else
+#define HIDE(bytes, length) ((void)(bytes), (void)(length))
+#define SHOW(bytes, length) ((void)(bytes), (void)(length))
+#endif
+
+enum {
+    MOST_PIECES = 10, MOST_VALUES = 7, SIDES = 2, GUARD = 64, SLACK = 16,
+    DESK_WORDS = 1 << 16, MOST_TABLE = 400, MOST_SHOWN = 4096
+};
+
+struct tally tally;
+
+const char *const call_names[CALL_COUNT] = {
+    "check", "write", "book", "line", "save", "load"
+};
+
+/* One lent piece: the bytes before the call, and where its copy stands on each side. */
+struct piece {
+    const char *name;
+    const void *bytes;
+    size_t length, align, place;
+};
+
+struct lending {
+    enum call call;
+    size_t count, fields;
+    struct piece pieces[MOST_PIECES];
+};
+
+struct outcome { uint64_t values[MOST_VALUES]; };
+
+/* Both sides have the same layout. */
+static size_t desk_words[SIDES][DESK_WORDS];
+
+/* What stands between the pieces: a line and a slip that would count, fields, digits. It
+   changes from call to call and differs between the sides, so that reading it shows. */
+static const char guards[][GUARD + SLACK + 1] = {
+    "43210     VD24000     VDA-17      9783442756841EN\1\0\0\0\0\0\0" "************************",
+    "24000     VD43210     VD2024022670012345  0001\0\0\1\0" "000000000000000000000000000000",
+    "*9999*9999*9999*9999*9999*9999*9999*9999*9999*9999*9999*9999*9999*9999*9999*9999",
+    "00000000000000000000000000000000000000000000000000000000000000000000000000000000",
+    "                                                                                ",
+    "\0"
+};
+
+static const char *guard_of(size_t side)
+{
+    enum { GUARDS = sizeof guards / sizeof guards[0] };
+    return guards[(side == 0 ? tally.call : tally.call / GUARDS) % GUARDS];
+}
+
+static uint8_t *desk(size_t side)
+{
+    return (uint8_t *)desk_words[side];
+}
+
+static uint8_t *copy_of(const struct lending *lending, size_t side, size_t piece)
+{
+    return desk(side) + lending->pieces[piece].place;
+}
+
+static void add_piece(struct lending *lending, const char *name, const void *bytes,
+                      size_t length, size_t align)
+{
+    struct piece *piece = &lending->pieces[lending->count++];
+    piece->name = name;
+    piece->bytes = bytes;
+    piece->length = length;
+    piece->align = align;
+}
+
+/* Lays the pieces out, bytes at any alignment and words at theirs, and copies them. */
+static void lay_out(struct lending *lending)
+{
+    size_t end = 0;
+    for (size_t i = 0; i < lending->count; i++) {
+        struct piece *piece = &lending->pieces[i];
+        size_t aligned = (end + GUARD + 7) / 8 * 8;
+        piece->place = piece->align == 1 ? aligned + (size_t)(tally.call % 8) : aligned;
+        if (piece->place + piece->length + GUARD > sizeof desk_words[0])
+            abort();
+        for (size_t side = 0; side < SIDES; side++) {
+            memcpy(desk(side) + end, guard_of(side), piece->place - end);
+            memcpy(desk(side) + piece->place, piece->bytes, piece->length);
+            memcpy(desk(side) + piece->place + piece->length, guard_of(side), GUARD);
+        }
+        end = piece->place + piece->length;
+    }
+}
+
+/* Hides or shows the guards for the sanitizer. */
+static void hide_guards(const struct lending *lending, int hide)
+{
+    for (size_t side = 0; side < SIDES; side++) {
+        size_t end = 0;
+        for (size_t i = 0; i <= lending->count; i++) {
+            int last = i == lending->count;
+            size_t start = last ? end + GUARD : lending->pieces[i].place;
+            if (hide)
+                HIDE(desk(side) + end, start - end);
+            else
+                SHOW(desk(side) + end, start - end);
+            if (!last)
+                end = start + lending->pieces[i].length;
+        }
+    }
+}
+
+static int guards_hold(const struct lending *lending, size_t side)
+{
+    size_t end = 0;
+    for (size_t i = 0; i < lending->count; i++) {
+        const struct piece *piece = &lending->pieces[i];
+        if (memcmp(desk(side) + end, guard_of(side), piece->place - end) != 0)
+            return 0;
+        end = piece->place + piece->length;
+    }
+    return memcmp(desk(side) + end, guard_of(side), GUARD) == 0;
+}
+
+static struct outcome figures(wq_booked booked)
+{
+    struct outcome outcome = {{booked.answer, booked.place, booked.ordered, booked.filled,
+                               booked.still_open, booked.let_go, booked.extra}};
+    return outcome;
+}
+
+#define BYTES(i) copy_of(lending, side, i), lending->pieces[i].length
+#define WORDS(i) (size_t *)(void *)copy_of(lending, side, i), \
+                 lending->pieces[i].length / sizeof (size_t)
+#define USED(i) (size_t *)(void *)copy_of(lending, side, i)
+
+static struct outcome run_record_call(const struct lending *lending, size_t side)
+{
+    if (lending->call == CHECK) {
+        wq_checked checked = side == 0 ? ref_check(BYTES(0), WORDS(1))
+                                       : wq_check(BYTES(0), WORDS(1));
+        struct outcome outcome = {{checked.answer, checked.place, checked.fields}};
+        return outcome;
+    }
+    wq_written written = side == 0
+        ? ref_write(BYTES(0), WORDS(1), lending->fields, BYTES(2), BYTES(3))
+        : wq_write(BYTES(0), WORDS(1), lending->fields, BYTES(2), BYTES(3));
+    struct outcome outcome = {{written.answer, written.place, written.length}};
+    return outcome;
+}
+
+static struct outcome run_save_call(const struct lending *lending, size_t side)
+{
+    if (lending->call == SAVE) {
+        wq_saved saved = side == 0 ? ref_save(BYTES(0), BYTES(1), USED(2), BYTES(3))
+                                   : wq_save(BYTES(0), BYTES(1), USED(2), BYTES(3));
+        struct outcome outcome = {{saved.answer, saved.place, saved.length}};
+        return outcome;
+    }
+    wq_loaded loaded = side == 0 ? ref_load(BYTES(0), BYTES(1), BYTES(2), USED(3))
+                                 : wq_load(BYTES(0), BYTES(1), BYTES(2), USED(3));
+    struct outcome outcome = {{loaded.answer, loaded.place}};
+    return outcome;
+}
+
+static struct outcome run_call(const struct lending *lending, size_t side)
+{
+    switch (lending->call) {
+    case BOOK:
+        return figures(side == 0 ? ref_book(BYTES(0), BYTES(1), BYTES(2), USED(3))
+                                 : wq_book(BYTES(0), BYTES(1), BYTES(2), USED(3)));
+    case LINE:
+        return figures(side == 0
+            ? ref_line(BYTES(0), BYTES(1), BYTES(2), BYTES(3), BYTES(4), BYTES(5), BYTES(6),
+                       BYTES(7), BYTES(8), USED(9))
+            : wq_line(BYTES(0), BYTES(1), BYTES(2), BYTES(3), BYTES(4), BYTES(5), BYTES(6),
+                      BYTES(7), BYTES(8), USED(9)));
+    case SAVE: case LOAD:
+        return run_save_call(lending, side);
+    default:
+        return run_record_call(lending, side);
+    }
+}
+
+static void print_piece(const struct piece *piece)
+{
+    const uint8_t *bytes = piece->bytes;
+    printf("  %s (%zu bytes):", piece->name, piece->length);
+    for (size_t i = 0; i < piece->length && i < MOST_SHOWN; i++)
+        printf("%s%02x", i % 32 == 0 ? "\n    " : "", bytes[i]);
+    puts(piece->length > MOST_SHOWN ? " .." : "");
+}
+
+static void print_outcome(const char *name, const struct outcome *outcome)
+{
+    printf("  %s:", name);
+    for (size_t i = 0; i < MOST_VALUES; i++)
+        printf(" %" PRIu64, outcome->values[i]);
+    puts("");
+}
+
+static void print_first_difference(const struct lending *lending)
+{
+    for (size_t i = 0; i < lending->count; i++)
+        for (size_t j = 0; j < lending->pieces[i].length; j++)
+            if (copy_of(lending, 0, i)[j] != copy_of(lending, 1, i)[j]) {
+                printf("  after: %s differs at byte %zu: reference %02x, library %02x\n",
+                       lending->pieces[i].name, j, copy_of(lending, 0, i)[j],
+                       copy_of(lending, 1, i)[j]);
+                return;
+            }
+}
+
+static void fail(const struct lending *lending, const struct outcome outcomes[SIDES],
+                 const char *what)
+{
+    printf("DIFFERENCE in %s: %s (seed %" PRIu64 ", call %" PRIu64 ")\n",
+           call_names[lending->call], what, tally.seed, tally.call);
+    if (lending->call == WRITE)
+        printf("  fields %zu\n", lending->fields);
+    for (size_t i = 0; i < lending->count; i++)
+        print_piece(&lending->pieces[i]);
+    print_outcome("reference", &outcomes[0]);
+    print_outcome("library  ", &outcomes[1]);
+    print_first_difference(lending);
+    exit(1);
+}
+
+void insist(int holds, const char *fact)
+{
+    if (holds)
+        return;
+    printf("FALSE: %s (seed %" PRIu64 ", call %" PRIu64 ")\n", fact, tally.seed, tally.call);
+    exit(1);
+}
+
+/* Where a refusal has to leave everything as it was. */
+static int is_unchanged(const struct lending *lending, size_t side)
+{
+    for (size_t i = 0; i < lending->count; i++)
+        if (memcmp(copy_of(lending, side, i), lending->pieces[i].bytes,
+                   lending->pieces[i].length) != 0)
+            return 0;
+    return 1;
+}
+
+static int is_same(const struct lending *lending)
+{
+    for (size_t i = 0; i < lending->count; i++)
+        if (memcmp(copy_of(lending, 0, i), copy_of(lending, 1, i),
+                   lending->pieces[i].length) != 0)
+            return 0;
+    return 1;
+}
+
+/* Runs the call on both sides and compares all of it; gives the answer. */
+static uint64_t run_both(struct lending *lending)
+{
+    struct outcome outcomes[SIDES];
+    tally.calls++;
+    tally.call++;
+    lay_out(lending);
+    hide_guards(lending, 1);
+    for (size_t side = 0; side < SIDES; side++)
+        outcomes[side] = run_call(lending, side);
+    hide_guards(lending, 0);
+    uint64_t answer = outcomes[0].values[0];
+    if (memcmp(&outcomes[0], &outcomes[1], sizeof outcomes[0]) != 0)
+        fail(lending, outcomes, "answer, place or values");
+    if (!is_same(lending))
+        fail(lending, outcomes, "lent bytes");
+    if (!guards_hold(lending, 0) || !guards_hold(lending, 1))
+        fail(lending, outcomes, "written outside the lent bytes");
+    if (answer != 0 && !is_unchanged(lending, 0))
+        fail(lending, outcomes, "a refusal changed lent bytes");
+    if (answer >= ANSWER_COUNT)
+        fail(lending, outcomes, "no such answer");
+    tally.seen[lending->call][answer]++;
+    return answer;
+}
+
+static struct lending lend(enum call call)
+{
+    struct lending lending;
+    memset(&lending, 0, sizeof lending);
+    lending.call = call;
+    return lending;
+}
+
+static void add_shelf(struct lending *lending, const struct shelf *shelf)
+{
+    add_piece(lending, "lines", shelf->lines, shelf->lines_length, 1);
+    add_piece(lending, "slips", shelf->slips, shelf->slips_length, 1);
+    add_piece(lending, "used", shelf->used, sizeof shelf->used, sizeof (size_t));
+}
+
+/* The caller's book becomes what both left. */
+static void take_back(const struct lending *lending, size_t first, struct shelf *shelf)
+{
+    memcpy(shelf->lines, copy_of(lending, 0, first), shelf->lines_length);
+    memcpy(shelf->slips, copy_of(lending, 0, first + 1), shelf->slips_length);
+    memcpy(shelf->used, copy_of(lending, 0, first + 2), sizeof shelf->used);
+}
+
+uint64_t both_check(const uint8_t *record, size_t length, size_t table_length)
+{
+    static size_t table[MOST_TABLE];
+    struct lending lending = lend(CHECK);
+    if (table_length > MOST_TABLE)
+        abort();
+    memset(table, (int)(tally.call * 37 % 256), table_length * sizeof table[0]);
+    add_piece(&lending, "record", record, length, 1);
+    add_piece(&lending, "table", table, table_length * sizeof table[0], sizeof table[0]);
+    return run_both(&lending);
+}
+
+uint64_t both_write(const struct sheet *sheet, size_t fixed_length, size_t table_length,
+                    size_t contents_length, uint8_t *out, size_t out_length)
+{
+    struct lending lending = lend(WRITE);
+    lending.fields = sheet->count;
+    memset(out, (int)(tally.call * 37 % 256), out_length);
+    add_piece(&lending, "fixed", sheet->fixed, fixed_length, 1);
+    add_piece(&lending, "table", sheet->table, table_length * sizeof (size_t),
+              sizeof (size_t));
+    add_piece(&lending, "contents", sheet->contents, contents_length, 1);
+    add_piece(&lending, "out", out, out_length, 1);
+    uint64_t answer = run_both(&lending);
+    memcpy(out, copy_of(&lending, 0, 3), out_length);
+    return answer;
+}
+
+uint64_t both_book(const uint8_t *record, size_t length, struct shelf *shelf)
+{
+    struct lending lending = lend(BOOK);
+    add_piece(&lending, "record", record, length, 1);
+    add_shelf(&lending, shelf);
+    uint64_t answer = run_both(&lending);
+    if (answer == 0)
+        take_back(&lending, 1, shelf);
+    return answer;
+}
+
+uint64_t both_line(const uint8_t *const parts[7], const size_t lengths[7],
+                   struct shelf *shelf)
+{
+    static const char *const names[7] = {
+        "school", "school qualifier", "supplier", "supplier qualifier", "reference",
+        "article", "article qualifier"
+    };
+    struct lending lending = lend(LINE);
+    for (size_t i = 0; i < 7; i++)
+        add_piece(&lending, names[i], parts[i], lengths[i], 1);
+    add_shelf(&lending, shelf);
+    uint64_t answer = run_both(&lending);
+    insist(is_unchanged(&lending, 0), "a call by key changes nothing");
+    return answer;
+}
+
+uint64_t both_save(struct shelf *shelf, uint8_t *out, size_t out_length)
+{
+    struct lending lending = lend(SAVE);
+    memset(out, (int)(tally.call * 37 % 256), out_length);
+    add_shelf(&lending, shelf);
+    add_piece(&lending, "out", out, out_length, 1);
+    uint64_t answer = run_both(&lending);
+    memcpy(out, copy_of(&lending, 0, 3), out_length);
+    return answer;
+}
+
+uint64_t both_load(const uint8_t *saved, size_t length, struct shelf *shelf)
+{
+    struct lending lending = lend(LOAD);
+    add_piece(&lending, "saved", saved, length, 1);
+    add_shelf(&lending, shelf);
+    uint64_t answer = run_both(&lending);
+    if (answer == 0)
+        take_back(&lending, 1, shelf);
+    return answer;
+}

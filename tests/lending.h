@@ -1,0 +1,43 @@
+/* Lends the same memory to both implementations, with guards around every piece, and
+   compares answers, values and every lent byte. */
+#ifndef LENDING_H
+#define LENDING_H
+
+#include "inputs.h"
+
+enum call { CHECK, WRITE, BOOK, LINE, SAVE, LOAD, CALL_COUNT };
+
+enum { ANSWER_COUNT = 24 };
+
+/* The calls so far, how often each answer of each call was seen, and where we are: the
+   round's seed and the number of the call in it. */
+struct tally {
+    uint64_t calls, seen[CALL_COUNT][ANSWER_COUNT], seed, call;
+};
+
+extern struct tally tally;
+extern const char *const call_names[CALL_COUNT];
+
+/* Each gives the answer both agree on. On success the lent memory of the caller (book,
+   out) is what both left; a refusal must have changed nothing. A difference is printed
+   and ends the program with 1. */
+uint64_t both_check(const uint8_t *record, size_t length, size_t table_length);
+uint64_t both_write(const struct sheet *sheet, size_t fixed_length, size_t table_length,
+                    size_t contents_length, uint8_t *out, size_t out_length);
+uint64_t both_book(const uint8_t *record, size_t length, struct shelf *shelf);
+uint64_t both_line(const uint8_t *const parts[7], const size_t lengths[7],
+                   struct shelf *shelf);
+uint64_t both_save(struct shelf *shelf, uint8_t *out, size_t out_length);
+uint64_t both_load(const uint8_t *saved, size_t length, struct shelf *shelf);
+
+/* Ends the program with 1 where a fact about the answers does not hold. */
+void insist(int holds, const char *fact);
+
+/* samples.c: document 01's samples, with the expected values, for both. */
+void run_samples(void);
+
+/* compare_records.c and compare_books.c: one round of cases. */
+void compare_records(struct dice *dice);
+void compare_books(struct dice *dice, int with_large);
+
+#endif

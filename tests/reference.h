@@ -1,0 +1,38 @@
+/* A second implementation of document 01, written in C from the document alone.
+   Same parameters and results as the calls of wizqamul.h; no heap, no global state. */
+#ifndef REFERENCE_H
+#define REFERENCE_H
+
+#include "../include/wizqamul.h"
+
+wq_checked ref_check(const uint8_t *record, size_t record_length,
+                     size_t *table, size_t table_length);
+
+wq_written ref_write(const uint8_t *fixed, size_t fixed_length,
+                     const size_t *table, size_t table_length, size_t fields,
+                     const uint8_t *contents, size_t contents_length,
+                     uint8_t *out, size_t out_length);
+
+wq_booked ref_book(const uint8_t *record, size_t record_length,
+                   uint8_t *lines, size_t lines_length,
+                   uint8_t *slips, size_t slips_length, size_t *used);
+
+wq_booked ref_line(const uint8_t *school, size_t school_length,
+                   const uint8_t *school_qualifier, size_t school_qualifier_length,
+                   const uint8_t *supplier, size_t supplier_length,
+                   const uint8_t *supplier_qualifier, size_t supplier_qualifier_length,
+                   const uint8_t *reference, size_t reference_length,
+                   const uint8_t *article, size_t article_length,
+                   const uint8_t *article_qualifier, size_t article_qualifier_length,
+                   const uint8_t *lines, size_t lines_length,
+                   const uint8_t *slips, size_t slips_length, const size_t *used);
+
+wq_saved ref_save(const uint8_t *lines, size_t lines_length,
+                  const uint8_t *slips, size_t slips_length,
+                  const size_t *used, uint8_t *out, size_t out_length);
+
+wq_loaded ref_load(const uint8_t *saved, size_t saved_length,
+                   uint8_t *lines, size_t lines_length,
+                   uint8_t *slips, size_t slips_length, size_t *used);
+
+#endif

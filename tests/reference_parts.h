@@ -1,0 +1,145 @@
+/* What the files of the reference share: widths, limits, answers, and the judges of
+   fields, records and books. Document 01 gives every number that stands here. */
+#ifndef REFERENCE_PARTS_H
+#define REFERENCE_PARTS_H
+
+#include <stddef.h>
+#include <stdint.h>
+
+/* Widths of the fixed fields, in bytes. */
+enum {
+    KIND_WIDTH = 4, ADDRESS_WIDTH = 10, QUALIFIER_WIDTH = 2, DATE_WIDTH = 8,
+    REFERENCE_WIDTH = 10, SLIP_NUMBER_WIDTH = 10, POSITION_WIDTH = 4,
+    ARTICLE_WIDTH = 13, QUANTITY_WIDTH = 4, PRICE_WIDTH = 15, CURRENCY_WIDTH = 3,
+    DISCOUNT_WIDTH = 8, TAX_MARK_WIDTH = 1, MESSAGE_WIDTH = 3, HOLD_MARK_WIDTH = 1,
+    PARTY_WIDTH = ADDRESS_WIDTH + QUALIFIER_WIDTH,
+    WANTED_WIDTH = REFERENCE_WIDTH + ARTICLE_WIDTH + QUALIFIER_WIDTH
+};
+
+/* Places of the fields that are booked. */
+enum {
+    SENDER_PLACE = KIND_WIDTH,
+    RECIPIENT_PLACE = SENDER_PLACE + PARTY_WIDTH,
+    PARTIES_END = RECIPIENT_PLACE + PARTY_WIDTH,
+    ORDER_REFERENCE_PLACE = PARTIES_END + DATE_WIDTH,
+    ORDER_QUANTITY_PLACE = ORDER_REFERENCE_PLACE + WANTED_WIDTH,
+    ORDER_LENGTH = ORDER_QUANTITY_PLACE + QUANTITY_WIDTH + QUALIFIER_WIDTH,
+    DELIVERY_DATE_PLACE = PARTIES_END,
+    DELIVERY_SLIP_PLACE = DELIVERY_DATE_PLACE + DATE_WIDTH,
+    DELIVERY_POSITION_PLACE = DELIVERY_SLIP_PLACE + SLIP_NUMBER_WIDTH,
+    DELIVERY_REFERENCE_PLACE = DELIVERY_POSITION_PLACE + POSITION_WIDTH,
+    DELIVERY_QUANTITY_PLACE = DELIVERY_REFERENCE_PLACE + WANTED_WIDTH,
+    DELIVERY_LENGTH = DELIVERY_QUANTITY_PLACE + QUANTITY_WIDTH + PRICE_WIDTH
+                      + QUALIFIER_WIDTH + CURRENCY_WIDTH + DISCOUNT_WIDTH + TAX_MARK_WIDTH,
+    REPORT_REFERENCE_PLACE = PARTIES_END + SLIP_NUMBER_WIDTH,
+    REPORT_HOLD_PLACE = REPORT_REFERENCE_PLACE + WANTED_WIDTH + MESSAGE_WIDTH,
+    REPORT_LENGTH = REPORT_HOLD_PLACE + HOLD_MARK_WIDTH + DATE_WIDTH + QUANTITY_WIDTH
+};
+
+/* Limits of records and of their optional part. */
+enum {
+    LONGEST_RECORD = 1024, MOST_FIELDS = 64, TABLE_STRIDE = 3,
+    ID_DIGITS = 4, FIELD_HEAD = 1 + ID_DIGITS, END_ID = 9999
+};
+
+/* The lent book and the saved book. */
+enum {
+    LINE_KEY_WIDTH = 2 * PARTY_WIDTH + WANTED_WIDTH,
+    LINE_ORDERED_PLACE = LINE_KEY_WIDTH,
+    LINE_MARK_PLACE = LINE_ORDERED_PLACE + 2,
+    LINE_BODY_WIDTH = LINE_MARK_PLACE + 1,
+    LINE_ARRIVED_PLACE = LINE_BODY_WIDTH,
+    LINE_WIDTH = LINE_ARRIVED_PLACE + 4,
+    SLIP_KEY_WIDTH = 2 * PARTY_WIDTH + DATE_WIDTH + SLIP_NUMBER_WIDTH + POSITION_WIDTH,
+    SLIP_LINE_PLACE = SLIP_KEY_WIDTH,
+    SLIP_COPIES_PLACE = SLIP_LINE_PLACE + 2,
+    SLIP_WIDTH = SLIP_COPIES_PLACE + 2,
+    MOST_LINES = 512, MOST_SLIPS = 1024,
+    MOST_COPIES = 9999, MOST_ARRIVED = 9999999,
+    MARK_NONE = 0, MARK_HELD = 1, MARK_LET_GO = 2,
+    SAVED_END = 0, SAVED_LINE = 1, SAVED_SLIP = 2,
+    SAVED_LINE_WIDTH = 1 + LINE_BODY_WIDTH,
+    SAVED_SLIP_WIDTH = 1 + SLIP_WIDTH,
+    SAVED_END_WIDTH = 1 + 2 + 2
+};
+
+/* Document 01's answer numbers. */
+enum answer {
+    DONE = 0, TOO_LONG = 1, UNKNOWN_KIND = 2, TOO_SHORT = 3, BYTE_NOT_ALLOWED = 4,
+    FIXED_FIELD_BROKEN = 5, STAR_OR_ID_MISSING = 6, END_MISPLACED = 7,
+    TOO_MANY_FIELDS = 8, CONTENT_BROKEN = 9, GROUP_BROKEN = 10, QUANTITY_ZERO = 11,
+    REFERENCE_BLANK = 12, NOTHING_TO_BOOK = 13, LINE_EXISTS = 14, LINES_FULL = 15,
+    NO_SUCH_LINE = 16, SLIP_REPEATED = 17, SLIP_DIFFERS = 18, SLIPS_FULL = 19,
+    BOOK_UNSOUND = 20, ARRIVED_OVER_LIMIT = 21, SAVE_INVALID = 22, ROOM_TOO_SMALL = 23
+};
+
+enum record_kind { NO_KIND, ORDER, DELIVERY, REPORT };
+
+struct verdict { uint64_t answer, place; };
+
+/* An optional field: its ID, and where its content stands. */
+struct optional_field { size_t id, place, length; };
+
+/* A fixed field that breaks its rule; index equals NONE_BROKEN where none does. */
+struct broken_field { size_t index, place; };
+#define NONE_BROKEN ((size_t)-1)
+
+/* A lent book as it is looked at; entries are counted, not bytes. */
+struct book {
+    const uint8_t *lines, *slips;
+    size_t line_room, slip_room, used_lines, used_slips;
+};
+
+/* reference_fields.c: bytes and single fields. */
+int ref_is_allowed(uint8_t byte);
+size_t ref_first_not_allowed(const uint8_t *bytes, size_t length);
+int ref_all_digits(const uint8_t *bytes, size_t length);
+size_t ref_number(const uint8_t *digits, size_t length);
+int ref_is_real_day(const uint8_t *date);
+int ref_is_address(const uint8_t *address);
+int ref_is_address_qualifier(const uint8_t *qualifier);
+int ref_is_article(const uint8_t *article, const uint8_t *qualifier);
+int ref_is_article_qualifier(const uint8_t *qualifier);
+int ref_content_keeps_table(size_t id, const uint8_t *content, size_t length);
+
+/* reference_record.c: whole records. */
+enum record_kind ref_kind_of(const uint8_t *record, size_t length);
+size_t ref_fixed_length(enum record_kind kind);
+int ref_is_closing(enum record_kind kind, const uint8_t *fixed);
+struct broken_field ref_first_broken(enum record_kind kind, const uint8_t *fixed);
+size_t ref_field_at(enum record_kind kind, size_t place);
+int ref_content_broken(enum record_kind kind, const struct optional_field *field,
+                       const uint8_t *contents);
+int ref_group_broken(const struct optional_field *fields, size_t count, size_t index);
+struct verdict ref_judge_record(const uint8_t *record, size_t length,
+                                struct optional_field *fields, size_t *count);
+
+/* reference_book.c: the lent book. */
+int ref_rooms_fit(size_t lines_length, size_t slips_length);
+int ref_open_book(const uint8_t *lines, size_t lines_length,
+                  const uint8_t *slips, size_t slips_length,
+                  const size_t *used, struct book *book);
+
+static inline size_t get_le16(const uint8_t *bytes)
+{
+    return (size_t)bytes[0] | (size_t)bytes[1] << 8;
+}
+
+static inline size_t get_le32(const uint8_t *bytes)
+{
+    return get_le16(bytes) | get_le16(bytes + 2) << 16;
+}
+
+static inline void put_le16(uint8_t *bytes, size_t number)
+{
+    bytes[0] = (uint8_t)(number & 0xff);
+    bytes[1] = (uint8_t)(number >> 8 & 0xff);
+}
+
+static inline void put_le32(uint8_t *bytes, size_t number)
+{
+    put_le16(bytes, number & 0xffff);
+    put_le16(bytes + 2, number >> 16 & 0xffff);
+}
+
+#endif

@@ -1,0 +1,112 @@
+/* Document 01's samples with the values it states, held against both implementations. */
+#include "lending.h"
+#include "reference.h"
+
+#include <inttypes.h>
+#include <stdio.h>
+#include <stdlib.h>
+#include <string.h>
+
+#define X "B10143210     VD24000     VD20240219A-17      9783442756841EN0010ST"
+#define Y(slip, position, copies) \
+    "L10124000     VD43210     VD20240226" slip position "A-17      9783442756841EN" \
+    copies "000000000129500LPEUR003000001*9999"
+#define Z(message) \
+    "M10124000     VD43210     VD70012345  A-17      9783442756841EN" message "        0000*9999"
+#define END "*9999"
+#define SLIP "70012345  "
+
+enum { DESK_LINES = 256, DESK_SLIPS = 512 };
+
+struct side {
+    const char *name;
+    wq_checked (*check)(const uint8_t *, size_t, size_t *, size_t);
+    wq_booked (*book)(const uint8_t *, size_t, uint8_t *, size_t, uint8_t *, size_t, size_t *);
+};
+
+static const struct side sides[] = {
+    {"reference", ref_check, ref_book}, {"library", wq_check, wq_book}
+};
+
+/* Reading: the record, its answer and place, and the number of fields. */
+static const struct { const char *record; uint64_t answer, place, fields; } read_samples[] = {
+    {X END, 0, 0, 0},
+    {Y(SLIP, "0001", "0004"), 0, 0, 0},
+    {Z("010N"), 0, 0, 0},
+    {X "*999", 3, 71, 0},
+    {"B10143210     VD24000     VD20240219A-17      9783442756842EN0010ST" END, 5, 46, 0},
+    {"B10143210     VD24000     VD20230229A-17      9783442756841EN0010ST" END, 5, 28, 0},
+    {"B10143210     VD24000     VD20240229A-17      9783442756841EN0010ST" END, 0, 0, 0},
+    {"", 2, 0, 0},
+    {X "*10299030" END, 9, 67, 0},
+    {X "*102990300" END, 10, 67, 0},
+    {X "*1003" END, 9, 67, 0},
+    {X "*8888" END, 0, 0, 1},
+    {X "*90901" END, 0, 0, 1},
+    {X "*88889999" END, 0, 0, 1}
+};
+
+/* The desk program's sample: record, then answer and the five figures. */
+static const struct { const char *record; uint64_t answer, figures[5]; } desk_sample[] = {
+    {X END, 0, {10, 0, 10, 0, 0}},
+    {Y(SLIP, "0001", "0004"), 0, {10, 4, 6, 0, 0}},
+    {Y(SLIP, "0001", "0004"), 17, {0, 0, 0, 0, 0}},
+    {Z("010N"), 0, {10, 4, 0, 6, 0}},
+    {Y(SLIP, "0002", "0003"), 0, {10, 7, 0, 3, 0}},
+    {Z("015J"), 0, {10, 7, 3, 0, 0}},
+    {Y(SLIP, "0003", "0005"), 0, {10, 10, 0, 0, 2}},
+    {Y(SLIP, "0001", "0005"), 18, {0, 0, 0, 0, 0}},
+    {Y("          ", "0001", "0004"), 13, {0, 0, 0, 0, 0}}
+};
+
+static void differs(const struct side *side, const char *record, uint64_t answer, uint64_t place)
+{
+    printf("SAMPLE: the %s answers %" PRIu64 " at %" PRIu64 " to: %s\n", side->name, answer,
+           place, record);
+    exit(1);
+}
+
+static void run_read_samples(const struct side *side)
+{
+    size_t table[IN_FULL_TABLE] = {0};
+    for (size_t i = 0; i < sizeof read_samples / sizeof read_samples[0]; i++) {
+        const char *record = read_samples[i].record;
+        wq_checked checked = side->check((const uint8_t *)record, strlen(record), table,
+                                         IN_FULL_TABLE);
+        tally.calls++;
+        if (checked.answer != read_samples[i].answer || checked.place != read_samples[i].place
+            || checked.fields != read_samples[i].fields)
+            differs(side, record, checked.answer, checked.place);
+    }
+    insist(table[0] == 8888 && table[1] == 72 && table[2] == 4,
+           "a 9999 inside a content is content");
+}
+
+static void run_desk_sample(const struct side *side)
+{
+    static uint8_t lines[DESK_LINES * IN_LINE], slips[DESK_SLIPS * IN_SLIP];
+    size_t used[2] = {0, 0};
+    for (size_t i = 0; i < sizeof desk_sample / sizeof desk_sample[0]; i++) {
+        const char *record = desk_sample[i].record;
+        const uint64_t *wanted = desk_sample[i].figures;
+        wq_booked booked = side->book((const uint8_t *)record, strlen(record), lines,
+                                      sizeof lines, slips, sizeof slips, used);
+        tally.calls++;
+        if (booked.answer != desk_sample[i].answer || booked.place != 0
+            || booked.ordered != wanted[0] || booked.filled != wanted[1]
+            || booked.still_open != wanted[2] || booked.let_go != wanted[3]
+            || booked.extra != wanted[4])
+            differs(side, record, booked.answer, booked.place);
+    }
+    insist(used[0] == 1 && used[1] == 3, "the desk sample leaves one line and three slips");
+}
+
+void run_samples(void)
+{
+    insist(strlen(X END) == 72 && strlen(Y(SLIP, "0001", "0004")) == 113
+           && strlen(Z("010N")) == 84, "X, Y and Z have document 01's lengths");
+    for (size_t i = 0; i < sizeof sides / sizeof sides[0]; i++) {
+        run_read_samples(&sides[i]);
+        run_desk_sample(&sides[i]);
+    }
+}
