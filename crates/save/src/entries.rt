@@ -8,6 +8,7 @@ ghost use Rattle.record.specs.Layout.{firstBroken};
 use cells::little::get2;
 use cells::part;
 use cells::same;
+use entry::stored::ARRIVED_AT;
 use entry::stored::KEY_WIDTH;
 use entry::stored::MARK_AT;
 use entry::stored::MOST_COPIES;
@@ -107,8 +108,9 @@ pub fn line_in(s: &[u8], i: usize) -> &[u8]
     requires { ⌜ savedLineWidth * i + savedLineWidth ≤ length (now s) ⌝ }
     ensures { λ r. ⌜ now r ≡ lineIn (now (s .entry)) i ⌝ }
 {
-    let at = SAVED_LINE_WIDTH * i;
-    part(s, at + 1, at + SAVED_LINE_WIDTH)
+    let at = SAVED_LINE_WIDTH * i + 1;
+    let end = at + ARRIVED_AT;
+    &s[at..end]
 }
 
 // Whether a slip of a save of n lines keeps the rules.

@@ -11,7 +11,6 @@ use crate::entries::is_line_kept;
 use crate::entries::is_slip_kept;
 use crate::entries::line_in;
 use cells::little::get2;
-use cells::part;
 use cells::same_by;
 use entry::stored::KEY_TELLS;
 use entry::stored::KEY_WIDTH;
@@ -19,6 +18,7 @@ use entry::stored::MOST_ARRIVED;
 use entry::stored::SLIP_COPIES_AT;
 use entry::stored::SLIP_KEY_TELLS;
 use entry::stored::SLIP_KEY_WIDTH;
+use entry::stored::SLIP_WIDTH;
 
 pub const END_WIDTH: usize = 5;
 
@@ -38,8 +38,9 @@ pub fn slip_in(s: &[u8], n: usize, j: usize) -> &[u8]
     requires { ⌜ savedLineWidth * n + savedSlipWidth * j + savedSlipWidth ≤ length (now s) ⌝ }
     ensures { λ r. ⌜ now r ≡ slipIn (now (s .entry)) n j ⌝ }
 {
-    let at = SAVED_LINE_WIDTH * n + SAVED_SLIP_WIDTH * j;
-    part(s, at + 1, at + SAVED_SLIP_WIDTH)
+    let at = SAVED_LINE_WIDTH * n + SAVED_SLIP_WIDTH * j + 1;
+    let end = at + SLIP_WIDTH;
+    &s[at..end]
 }
 
 // The key of a line in a save.

@@ -7,7 +7,6 @@ ghost use lib.Seq.{sets};
 ghost use Rattle.entry.specs.Stored.{lineWidth, slipWidth};
 ghost use Rattle.save.specs.Saved.{savedLineWidth, savedSlipWidth, endWidth, lineEntries, slipEntries, endEntry};
 use cells::little::put2;
-use cells::part;
 use cells::paste_at;
 use entry::stored::ARRIVED_AT;
 use entry::stored::LINE_WIDTH;
@@ -36,7 +35,8 @@ pub fn put_lines(out: &mut [u8], lines: &[u8], n: usize)
     while i < n {
         let at = SAVED_LINE_WIDTH * i;
         let from = LINE_WIDTH * i;
-        put_entry(out, at, LINE_KIND, part(lines, from, from + ARRIVED_AT));
+        let end = from + ARRIVED_AT;
+        put_entry(out, at, LINE_KIND, &lines[from..end]);
         i += 1;
     }
 }
@@ -50,7 +50,8 @@ pub fn put_slips(out: &mut [u8], start: usize, slips: &[u8], m: usize)
     while j < m {
         let at = start + SAVED_SLIP_WIDTH * j;
         let from = SLIP_WIDTH * j;
-        put_entry(out, at, SLIP_KIND, part(slips, from, from + SLIP_WIDTH));
+        let end = from + SLIP_WIDTH;
+        put_entry(out, at, SLIP_KIND, &slips[from..end]);
         j += 1;
     }
 }

@@ -6,7 +6,7 @@ use native.Mathlib.Omega.{arith}
 use native.Mathlib.Nat.{sub-zero}
 use lib.ListN.{length}
 use lib.Seq.{sets}
-use Rattle.rules.proofs.Parts.{part-most}
+use Rattle.cells.proofs.Parts.{part-is}
 use Rattle.save.specs.Saved.{lineKind, joinedFrom, lineBodyAt, lineEntries}
 use Rattle.save.proofs.Joined.{joined-next, joined-end}
 use Rattle.saving.proofs.Entries.{entry-long}
@@ -33,18 +33,20 @@ mul-at c = omega arith
 mul-from : tie.Need-mul-from Inv-loop μ-loop
 mul-from c = omega arith
 
-add-part : tie.Need-add-part Inv-loop μ-loop
-add-part c = omega arith
+add-end : tie.Need-add-end Inv-loop μ-loop
+add-end c = omega arith
 
-part-requires : tie.Need-part-requires Inv-loop μ-loop
-part-requires c κs = search needs
+sub-put-entry : tie.Need-sub-put-entry Inv-loop μ-loop
+sub-put-entry c = omega arith
+
+part-put-entry-start : tie.Need-part-put-entry-start Inv-loop μ-loop
+part-put-entry-start c = search needs
+
+part-put-entry-end : tie.Need-part-put-entry-end Inv-loop μ-loop
+part-put-entry-end c = omega arith
 
 put-entry-requires : tie.Need-put-entry-requires Inv-loop μ-loop
-put-entry-requires c κs =
-    let l = c .before .before .before .loop in
-    let a = c .before .before .before .before .before .before .args in
-    let e = part-most (56 * l .i) (56 * l .i + 52) (a .lines .now) in
-    rw (c .part .ensures) (omega arith)
+put-entry-requires c κs = search needs
 
 add-i : tie.Need-add-i Inv-loop μ-loop
 add-i c = omega arith
@@ -62,7 +64,7 @@ loop-again c =
     let at : 53 * l .i + (52 + 1) ≡ 53 * (l .i + 1) = omega arith in (
       omega arith,
       search needs,
-      l .inv .2 ∙ (joined-next (λ k. lineKind ∷ lineBodyAt (a .lines .now) k) (a .n) (l .i) (l .out) (53 * l .i) (52 + 1) (omega arith) long ∙ rw (at, put .put-entry .ensures, put .before .part .ensures)),
+      l .inv .2 ∙ (joined-next (λ k. lineKind ∷ lineBodyAt (a .lines .now) k) (a .n) (l .i) (l .out) (53 * l .i) (52 + 1) (omega arith) long ∙ rw (at, put .put-entry .ensures, part-is (56 * l .i) (56 * l .i + 52) (a .lines .now) (omega arith))),
     )
 
 same-length : tie.Need-same-length Inv-loop μ-loop
@@ -82,8 +84,10 @@ put-lines-spec =
     loop-holds
     mul-at
     mul-from
-    add-part
-    part-requires
+    add-end
+    sub-put-entry
+    part-put-entry-start
+    part-put-entry-end
     put-entry-requires
     add-i
     loop-less

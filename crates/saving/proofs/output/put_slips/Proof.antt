@@ -6,7 +6,7 @@ use native.Mathlib.Omega.{arith}
 use native.Mathlib.Nat.{sub-zero}
 use lib.ListN.{length}
 use lib.Seq.{sets}
-use Rattle.rules.proofs.Parts.{part-most}
+use Rattle.cells.proofs.Parts.{part-is}
 use Rattle.save.specs.Saved.{slipKind, joinedFrom, slipBodyAt, slipEntries}
 use Rattle.save.proofs.Joined.{joined-next, joined-end}
 use Rattle.saving.proofs.Entries.{entry-long}
@@ -38,18 +38,20 @@ add-at c = omega arith
 mul-from : tie.Need-mul-from Inv-loop μ-loop
 mul-from c = omega arith
 
-add-part : tie.Need-add-part Inv-loop μ-loop
-add-part c = omega arith
+add-end : tie.Need-add-end Inv-loop μ-loop
+add-end c = omega arith
 
-part-requires : tie.Need-part-requires Inv-loop μ-loop
-part-requires c κs = search needs
+sub-put-entry : tie.Need-sub-put-entry Inv-loop μ-loop
+sub-put-entry c = omega arith
+
+part-put-entry-start : tie.Need-part-put-entry-start Inv-loop μ-loop
+part-put-entry-start c = search needs
+
+part-put-entry-end : tie.Need-part-put-entry-end Inv-loop μ-loop
+part-put-entry-end c = omega arith
 
 put-entry-requires : tie.Need-put-entry-requires Inv-loop μ-loop
-put-entry-requires c κs =
-    let l = c .before .before .before .loop in
-    let a = c .before .before .before .before .before .before .args in
-    let e = part-most (50 * l .j) (50 * l .j + 50) (a .slips .now) in
-    rw (c .part .ensures) (omega arith)
+put-entry-requires c κs = search needs
 
 add-j : tie.Need-add-j Inv-loop μ-loop
 add-j c = omega arith
@@ -67,7 +69,7 @@ loop-again c =
     let at : a .start + 51 * l .j + (50 + 1) ≡ a .start + 51 * (l .j + 1) = omega arith in (
       omega arith,
       search needs,
-      l .inv .2 ∙ (joined-next (λ k. slipKind ∷ slipBodyAt (a .slips .now) k) (a .m) (l .j) (l .out) (a .start + 51 * l .j) (50 + 1) (omega arith) long ∙ rw (at, put .put-entry .ensures, put .before .part .ensures)),
+      l .inv .2 ∙ (joined-next (λ k. slipKind ∷ slipBodyAt (a .slips .now) k) (a .m) (l .j) (l .out) (a .start + 51 * l .j) (50 + 1) (omega arith) long ∙ rw (at, put .put-entry .ensures, part-is (50 * l .j) (50 * l .j + 50) (a .slips .now) (omega arith))),
     )
 
 same-length : tie.Need-same-length Inv-loop μ-loop
@@ -88,8 +90,10 @@ put-slips-spec =
     mul-at
     add-at
     mul-from
-    add-part
-    part-requires
+    add-end
+    sub-put-entry
+    part-put-entry-start
+    part-put-entry-end
     put-entry-requires
     add-j
     loop-less
