@@ -3,8 +3,8 @@ ghost use mathlib.Core.Path.{_≡_};
 ghost use Prim.Native.Nat.{_+_, _*_, _≤_, _<_};
 ghost use lib.ListN.{length, getD};
 ghost use Rattle.record.specs.Layout.{fixedWidth};
-ghost use Rattle.entry.specs.Stored.{lineWidth, slipWidth, lineAt};
-ghost use Rattle.book.specs.Lent.{lent};
+ghost use Rattle.entry.specs.Stored.{lineWidth, slipWidth, mostArrived, lineAt};
+ghost use Rattle.book.specs.Lent.{mostLines, mostSlips, lent};
 ghost use Rattle.book.specs.Booking.{copiesIn, newLine, markIn, outcome, enteredAs};
 use book::answer::Booked;
 use book::answer::done;
@@ -63,7 +63,7 @@ pub fn enter_order(
     used: &mut [usize; 2],
     i: usize,
 ) -> Booked
-    requires { ⌜ (fixedWidth Kind.Order ≤ length (now s)) × (lineWidth * i + lineWidth ≤ length (now lines)) × (getD (now used) 0 0 < 512) ⌝ }
+    requires { ⌜ (fixedWidth Kind.Order ≤ length (now s)) × (lineWidth * i + lineWidth ≤ length (now lines)) × (getD (now used) 0 0 < mostLines) ⌝ }
     ensures { λ r. ⌜ outcome r (lent (now (lines .exit)) (now (slips .entry)) (now (used .exit))) ≡ enteredAs Kind.Order (now (s .entry)) (lent (now (lines .entry)) (now (slips .entry)) (now (used .entry))) i ⌝ }
 {
     let l = new_line(number_of(part(s, ORDER_QUANTITY, ORDER_MEASURE)));
@@ -81,7 +81,7 @@ pub fn enter_goods(
     used: &mut [usize; 2],
     i: usize,
 ) -> Booked
-    requires { ⌜ (fixedWidth Kind.Goods ≤ length (now s)) × (lineWidth * i + lineWidth ≤ length (now lines)) × (slipWidth * getD (now used) 1 0 + slipWidth ≤ length (now slips)) × (getD (now used) 1 0 < 1024) × (lineAt (now lines) i .arrived + copiesIn Kind.Goods (now s) ≤ 9999999) ⌝ }
+    requires { ⌜ (fixedWidth Kind.Goods ≤ length (now s)) × (lineWidth * i + lineWidth ≤ length (now lines)) × (slipWidth * getD (now used) 1 0 + slipWidth ≤ length (now slips)) × (getD (now used) 1 0 < mostSlips) × (lineAt (now lines) i .arrived + copiesIn Kind.Goods (now s) ≤ mostArrived) ⌝ }
     ensures { λ r. ⌜ outcome r (lent (now (lines .exit)) (now (slips .exit)) (now (used .exit))) ≡ enteredAs Kind.Goods (now (s .entry)) (lent (now (lines .entry)) (now (slips .entry)) (now (used .entry))) i ⌝ }
 {
     let copies = number_of(part(s, QUANTITY, PRICE));

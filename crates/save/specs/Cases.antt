@@ -132,6 +132,14 @@ firstWrong n (c ∷ cs) = pick (eqb (load (c .saved) (roomy 2 2) .said .answer) 
 abbrev pub day : Lent
 day = book (put 63 "015J" Z) (book Y (book X (roomy 2 2) .lent) .lent) .lent
 
+-- the same rooms with other used counts: three lines, where there is room for two
+abbrev pub overused : Lent
+overused = record { lines = day .lines; slips = day .slips; used = 3 ∷ 1 ∷ [] }
+
+-- a room that is no whole number of lines
+abbrev pub oddRoom : Lent
+oddRoom = record { lines = take 111 (day .lines); slips = day .slips; used = 0 ∷ 0 ∷ [] }
+
 -- it saves to these bytes, with what stood behind them left as it was
 unfoldable pub daySaved : List ℕ
 daySaved = ours ++ (ourSlip ++ endOf 1 1)
