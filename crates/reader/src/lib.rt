@@ -26,8 +26,7 @@ use record::layout::first_broken;
 use record::layout::fixed_width;
 use record::layout::kind_of;
 use record::layout::start_of;
-use rules::class::Class;
-use rules::class::run_of;
+use rules::class::allowed_run;
 use values::delivery_of;
 use values::no_delivery;
 use values::no_order;
@@ -57,7 +56,7 @@ fn judge_kind(k: Kind, s: &[u8]) -> Verdict
     if s.len() < width + HEAD_WIDTH {
         return Verdict::Refused(Refusal::TooShort(s.len()));
     }
-    let allowed = run_of(Class::Allowed, s);
+    let allowed = allowed_run(s);
     if allowed != s.len() {
         return Verdict::Refused(Refusal::Byte(allowed));
     }

@@ -1,16 +1,19 @@
 -- The arms of a match on an ID, against the tables that say what holds at an ID.
 use mathlib.Core.Path.{_≡_, refl, ap, _∙_}
 use mathlib.Core.Logic.{inl, inr, ⊎-elim}
-use mathlib.Core.Bool.{false}
+use mathlib.Core.Bool.{Bool, true, false, false≢true}
 use mathlib.Core.List.{List, [], _∷_, _++_, map}
 use Prim.Native.Nat.{ℕ, zero, suc}
 use borrow.Author.Tests.{ne-eqb, eqb-true}
 use lib.Dec.{eqb}
 use lib.ListN.{getD}
 use types.Run.{OneOf}
+use denote.Enum.Declared.{tagOf}
 use Rattle.cells.specs.Bytes.{pick}
 use Rattle.cells.proofs.Bools.{split}
-use Rattle.rules.specs.declared.rule.Rule.the-variants.{Free}
+use Rattle.rules.specs.declared.rule.Rule.{Rule}
+use Rattle.rules.specs.declared.rule.Rule.the-variants.{Free, Of, Padded, Named, OneOf as Texted, DayCount, Date, ExpectedDate, Article}
+use Rattle.rules.proofs.rule.Rule.{the-type}
 use Rattle.record.specs.Contents.{Listed, _∶_, contents, isIn, ruleIn, contentRule, groups, groupWith}
 
 -- a function of the ID that has one value at each of an arm's keys has it in the arm
@@ -85,6 +88,53 @@ in-row-of (row ∷ rows) (suc i) x e h = in-row-of rows i x (cc) h
 -- in the arm of a row the table says the row's rule
 pub in-row : (i x : ℕ) → OneOf (rowAt contents i .ids) x → rowAt contents i .rule ≡ contentRule x
 in-row i x h = in-row-of contents i x told h
+
+-- the rules that the table of contents has, and that of an ID it doesn't have
+abbrev listed : Rule → Bool
+listed Free = true
+listed (Of c least most) = true
+listed (Padded c least most) = false
+listed (Named c) = false
+listed (Texted t) = true
+listed DayCount = true
+listed Date = true
+listed ExpectedDate = false
+listed Article = false
+
+-- where each row has one of them, an ID has one
+listed-in : (rows : List Listed) (x : ℕ) → map (λ (row : Listed). listed (row .rule)) rows ≡ map (λ (row : Listed). true) rows → listed (ruleIn x rows) ≡ true
+unfolding ruleIn
+listed-in [] x e = refl
+listed-in (row ∷ rows) x e = split (isIn x (row .ids)) (λ q. rw q (cc)) (λ q. rw q (listed-in rows x (cc)))
+
+-- the tags of the rules that have no arm of their own where the rule of an ID is matched
+abbrev pub restTags : List ℕ
+restTags = 0 ∷ 2 ∷ 3 ∷ 7 ∷ 8 ∷ []
+
+-- no other tag is one of them
+not-rest : (t : ℕ) → isIn t (1 ∷ 4 ∷ 5 ∷ 6 ∷ []) ≡ true → OneOf restTags t → ⊥
+unfolding isIn
+not-rest t e h = false≢true (in-arm (λ (n : ℕ). isIn n (1 ∷ 4 ∷ 5 ∷ 6 ∷ [])) false restTags t refl h ∙ e)
+
+-- of the rules that the table has only that of an ID it doesn't have is left to the last arm
+rest-listed : (r : Rule) → listed r ≡ true → OneOf restTags (tagOf the-type r) → r ≡ Free
+unfolding isIn
+rest-listed Free l h = refl
+rest-listed (Of c least most) l h = absurd (not-rest 1 refl h)
+rest-listed (Padded c least most) l h = absurd (false≢true l)
+rest-listed (Named c) l h = absurd (false≢true l)
+rest-listed (Texted t) l h = absurd (not-rest 4 refl h)
+rest-listed DayCount l h = absurd (not-rest 5 refl h)
+rest-listed Date l h = absurd (not-rest 6 refl h)
+rest-listed ExpectedDate l h = absurd (false≢true l)
+rest-listed Article l h = absurd (false≢true l)
+
+-- so the rule of an ID is free in the last arm
+pub rest-free : (x : ℕ) (r : Rule) → r ≡ contentRule x → OneOf restTags (tagOf the-type r) → r ≡ Free
+unfolding contents contentRule
+rest-free x r e h =
+    let l : listed r ≡ true = rw e (listed-in contents x refl) in
+    rest-listed r l h
 
 -- the members of all groups
 abbrev pub joined : List (List ℕ) → List ℕ

@@ -9,9 +9,13 @@ use borrow.Author.Tests.{ltb-true, ltb-false}
 use lib.Dec.{ltb}
 use lib.ListN.{length, getD, take, drop, take-append-drop, drop-of-length-le, List·getD-append, List·getD-eq-default}
 use lib.Seq.{slice, take-suc, take-all, drop-cons, drop-drop}
+use Rattle.cells.specs.Bytes.{pick, among}
 use Rattle.cells.proofs.Bools.{split, and-left, and-right}
 use Rattle.cells.proofs.Parts.{take-from, slice-drop}
-use Rattle.rules.specs.Rule.{keeps}
+use Rattle.rules.specs.Class.{padded}
+use Rattle.rules.specs.Rule.{texts, keeps}
+use Rattle.rules.specs.declared.class.Class.the-variants.{Account}
+use Rattle.rules.specs.declared.rule.Texts.the-variants.{Party}
 use Rattle.record.specs.declared.layout.Field.{Field}
 use Rattle.record.specs.declared.layout.Kind.{Kind}
 use Rattle.record.specs.declared.layout.Kind.the-variants.{Order, Goods, Closing, Report}
@@ -100,6 +104,40 @@ pub broken-past : (fs : List Field) (i : ℕ) (s : List ℕ) → length fs ≤ i
 unfolding firstBroken
 broken-past fs i s h = rw (drop-of-length-le fs {i = i} h)
 
+-- the first field that breaks its rule has no index past the last
+pub broken-most : (fs : List Field) (s : List ℕ) → firstBroken fs s ≤ length fs
+unfolding firstBroken
+broken-most [] s = omega arith
+broken-most (f ∷ fs) s =
+    let ih = broken-most fs (drop (f .size) s) in
+    split (keeps (f .rule) (slice (f .size) (f .size + 2) s) (take (f .size) s)) (λ e. rw e (omega arith)) (λ e. rw e (omega arith))
+
+-- in two parts of a layout the first broken is found in the first part, where one is
+pub broken-front : (xs ys : List Field) (s : List ℕ) → firstBroken xs s < length xs → firstBroken (xs ++ ys) s ≡ firstBroken xs s
+unfolding firstBroken
+broken-front [] ys s h = absurd (omega arith)
+broken-front (x ∷ xs) ys s h =
+    split (keeps (x .rule) (slice (x .size) (x .size + 2) s) (take (x .size) s))
+    (λ e.
+    let g = rw e at h in
+    rw e (ap suc (broken-front xs ys (drop (x .size) s) (omega arith))))
+    (λ e. rw e)
+
+-- else in the second
+pub broken-behind : (xs ys : List Field) (s : List ℕ) → firstBroken xs s ≡ length xs → firstBroken (xs ++ ys) s ≡ length xs + firstBroken ys (drop (total xs) s)
+unfolding firstBroken total
+broken-behind [] ys s h = omega arith
+broken-behind (x ∷ xs) ys s h =
+    split (keeps (x .rule) (slice (x .size) (x .size + 2) s) (take (x .size) s))
+    (λ e.
+    let g = rw e at h in
+    let ih = broken-behind xs ys (drop (x .size) s) (omega arith) in
+    let i = rw (drop-drop (total xs) (x .size) s) at ih in
+    rw e (omega arith))
+    (λ e.
+    let g = rw e at h in
+    absurd (omega arith))
+
 -- the field with an index
 module _ (fs : List Field) (i : ℕ) (h : i < length fs) (f : Field) (e : f ≡ getD fs i noField) where
   -- it stands in front of what is left of the layout
@@ -135,3 +173,30 @@ module _ (fs : List Field) (i : ℕ) (h : i < length fs) (f : Field) (e : f ≡ 
     broken-here q =
         let a : at + (f .size + 2) ≡ at + f .size + 2 = omega arith in
         rw (field-here, take-from (f .size) at s, slice-drop (f .size) (f .size + 2) at s, a, drop-drop (f .size) at s, q)
+
+-- after the fields that every record begins with a layout has room
+pub head-room : (k : Kind) → (5 ≤ length (layout k)) × (28 + total (drop 5 (layout k)) ≤ 108)
+unfolding layout total
+head-room Order = (omega arith, omega arith)
+head-room Goods = (omega arith, omega arith)
+head-room Closing = (omega arith, omega arith)
+head-room Report = (omega arith, omega arith)
+
+-- the fields that every record begins with, each judged where it stands
+pub head-judged : (s : List ℕ)
+    → firstBroken head s
+    ≡ suc (pick (padded Account 1 10 (slice 4 14 s)) (suc (pick (among (slice 14 16 s) (texts Party)) (suc (pick (padded Account 1 10 (slice 16 26 s)) (suc (pick (among (slice 26 28 s) (texts Party)) 1 0)) 0)) 0)) 0)
+unfolding firstBroken keeps
+head-judged s =
+    rw (drop-drop 10 4 s, drop-drop 2 14 s, drop-drop 10 16 s, take-from 10 4 s, take-from 2 14 s, take-from 10 16 s, take-from 2 26 s)
+
+-- one of them broken: it is found first
+pub head-front : (k : Kind) (s : List ℕ) → firstBroken head s < 5 → firstBroken head s ≡ firstBroken (layout k) s
+head-front k s h = rw (begins k) (sym (broken-front head (drop 5 (layout k)) s h))
+
+-- none of them broken: what is found first is found after them
+pub head-behind : (k : Kind) (s : List ℕ) → 5 ≤ firstBroken head s → 5 + firstBroken (drop 5 (layout k)) (drop 28 s) ≡ firstBroken (layout k) s
+unfolding total
+head-behind k s h =
+    let e : firstBroken head s ≡ 5 = omega (arith, h, broken-most head s) in
+    sym (ap (λ (fs : List Field). firstBroken fs s) (begins k) ∙ broken-behind head (drop 5 (layout k)) s e)

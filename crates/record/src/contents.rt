@@ -6,12 +6,14 @@ ghost use Rattle.rules.specs.Class.{barred};
 ghost use Rattle.rules.specs.Rule.{keeps};
 ghost use Rattle.record.specs.Contents.{contentRule, guarded, nextMember, previousMember, isWanted, groupKept};
 use crate::layout::Kind;
-use cells::part;
 use rules::class::Class;
 use rules::class::belongs_to;
+use rules::class::of_class;
 use rules::rule::Rule;
 use rules::rule::Texts;
-use rules::rule::keeps_rule;
+use rules::rule::is_day;
+use rules::rule::is_day_count;
+use rules::rule::is_one_of;
 
 // Stands for "no member": 0 is in no group.
 pub const NO_MEMBER: usize = 0;
@@ -51,11 +53,17 @@ pub fn content_rule(id: usize) -> Rule
     }
 }
 
-// Whether a content keeps the rule of its ID.
+// Whether a content keeps the rule of its ID; no content has one of the other rules.
 pub fn rule_kept(id: usize, content: &[u8]) -> bool
     ensures { λ r. ⌜ r ≡ keeps (contentRule id) [] (now (content .entry)) ⌝ }
 {
-    keeps_rule(content_rule(id), part(content, 0, 0), content)
+    match content_rule(id) {
+        Rule::Of(c, least, most) => of_class(c, least, most, content),
+        Rule::OneOf(t) => is_one_of(t, content),
+        Rule::DayCount => is_day_count(content),
+        Rule::Date => is_day(content),
+        _ => true,
+    }
 }
 
 // Whether the bytes * + : ? ' may not stand in a field.

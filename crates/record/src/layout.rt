@@ -1,16 +1,19 @@
 // The kinds of records, and the fixed part of each as data.
 ghost use mathlib.Core.Path.{_≡_};
-ghost use lib.ListN.{length, getD};
+ghost use Prim.Native.Nat.{_+_};
+ghost use lib.ListN.{length, getD, drop};
 ghost use Rattle.record.specs.Layout.{_∶_, noField, head, layout, fixedWidth, startOf, kindOf, firstBroken};
 ghost use Rattle.rules.specs.declared.rule.Rule.the-variants.{Of};
 ghost use Rattle.record.specs.declared.layout.Kind.the-variants.{Order, Goods, Closing, Report};
 use cells::part;
 use cells::same;
 use rules::class::Class;
+use rules::class::is_padded;
 use rules::class::of_class;
 use rules::day::Day;
 use rules::rule::Rule;
 use rules::rule::Texts;
+use rules::rule::is_one_of;
 use rules::rule::keeps_rule;
 
 // A record is at most this long without its line end.
@@ -33,6 +36,19 @@ pub const ORDER_FIELDS: usize = 11;
 pub const DELIVERY_FIELDS: usize = 17;
 
 pub const REPORT_FIELDS: usize = 13;
+
+// Where the fields that every record begins with stand after the kind, and where they end.
+const SENDER: usize = 4;
+
+const SENDER_QUALIFIER: usize = 14;
+
+const RECIPIENT: usize = 16;
+
+const RECIPIENT_QUALIFIER: usize = 26;
+
+const HEAD_END: usize = 28;
+
+const HEAD_FIELDS: usize = 5;
 
 // A fixed field: its length and its rule.
 pub struct Field {
@@ -274,13 +290,37 @@ pub fn start_of(k: Kind, index: usize) -> usize
     at
 }
 
-// The index of the first fixed field that breaks its rule, or the number of fields where none does.
-pub fn first_broken(k: Kind, s: &[u8]) -> usize
-    ensures { λ r. ⌜ r ≡ firstBroken (layout k) (now (s .entry)) ⌝ }
+// The index of the first that breaks its rule of the fields that every record begins with, or their number; the kind breaks none.
+fn head_broken(s: &[u8]) -> usize
+    ensures { λ r. ⌜ r ≡ firstBroken head (now (s .entry)) ⌝ }
+{
+    if !is_padded(Class::Account, 1, 10, part(s, SENDER, SENDER_QUALIFIER)) {
+        return 1;
+    }
+    if !is_one_of(Texts::Party, part(s, SENDER_QUALIFIER, RECIPIENT)) {
+        return 2;
+    }
+    if !is_padded(
+        Class::Account,
+        1,
+        10,
+        part(s, RECIPIENT, RECIPIENT_QUALIFIER),
+    ) {
+        return 3;
+    }
+    if !is_one_of(Texts::Party, part(s, RECIPIENT_QUALIFIER, HEAD_END)) {
+        return 4;
+    }
+    HEAD_FIELDS
+}
+
+// The same of the fields after them, by the layout.
+fn rest_broken(k: Kind, s: &[u8]) -> usize
+    ensures { λ r. ⌜ r ≡ 5 + firstBroken (drop 5 (layout k)) (drop 28 (now (s .entry))) ⌝ }
 {
     let count = field_count(k);
-    let mut at: usize = 0;
-    let mut i: usize = 0;
+    let mut at = HEAD_END;
+    let mut i = HEAD_FIELDS;
     while i < count {
         let f = field_of(k, i);
         let rule = f.rule;
@@ -292,6 +332,17 @@ pub fn first_broken(k: Kind, s: &[u8]) -> usize
         i += 1;
     }
     i
+}
+
+// The index of the first fixed field that breaks its rule, or the number of fields where none does.
+pub fn first_broken(k: Kind, s: &[u8]) -> usize
+    ensures { λ r. ⌜ r ≡ firstBroken (layout k) (now (s .entry)) ⌝ }
+{
+    let broken = head_broken(s);
+    if broken < HEAD_FIELDS {
+        return broken;
+    }
+    rest_broken(k, s)
 }
 
 // The kind that the first four bytes name; an L101 dated eight zeros is a closing record.

@@ -16,17 +16,11 @@ use Rattle.rules.proofs.Runs.{run-most}
 use Rattle.record.specs.Layout.{layout, total, fixedWidth, firstBroken}
 use Rattle.record.specs.declared.layout.Field.{Field}
 use Rattle.record.specs.declared.layout.Kind.{Kind}
+use Rattle.record.proofs.Layouts.{broken-most}
 use Rattle.writing.specs.Write.{fieldHolding, firstFaulty}
+use Rattle.writing.proofs.Holding.{held-none}
 
--- the first field that breaks its rule has no index past the last
-broken-most : (fs : List Field) (s : List ℕ) → firstBroken fs s ≤ length fs
-unfolding firstBroken
-broken-most [] s = omega arith
-broken-most (f ∷ fs) s =
-    let ih = broken-most fs (drop (f .size) s) in
-    split (keeps (f .rule) (slice (f .size) (f .size + 2) s) (take (f .size) s)) (λ e. rw e (omega arith)) (λ e. rw e (omega arith))
-
--- nor has the field that holds a byte
+-- the field that holds a byte has no index past the last
 holding-most : (fs : List Field) (p : ℕ) → fieldHolding fs p ≤ length fs
 unfolding fieldHolding
 holding-most [] p = omega arith
@@ -45,12 +39,6 @@ holding-none (f ∷ fs) p e =
     let ih = holding-none fs (p - f .size) (omega arith) in
     let l = ltb-false p (f .size) h in
     omega arith)
-
--- and the other way round
-holding-past : (fs : List Field) (p : ℕ) → total fs ≤ p → fieldHolding fs p ≡ length fs
-unfolding fieldHolding total
-holding-past [] p h = refl
-holding-past (f ∷ fs) p h = rw (le-ltb p (f .size) (omega arith)) (ap suc (holding-past fs (p - f .size) (omega arith)))
 
 module _ (k : Kind) (fixed : List ℕ) where
   -- no fixed field is faulty: each keeps its rule
@@ -73,4 +61,4 @@ module _ (k : Kind) (fixed : List ℕ) where
     -- each keeps its rule and each byte is allowed: no fixed field is faulty
     pub faultless : firstBroken (layout k) fixed ≡ length (layout k) → run (belongs Allowed) fixed ≡ length fixed → firstFaulty k fixed ≡ length (layout k)
     unfolding firstFaulty fixedWidth
-    faultless b a = omega (arith, b, holding-past (layout k) (run (belongs Allowed) fixed) (omega (arith, w, a)))
+    faultless b a = omega (arith, b, held-none (layout k) (run (belongs Allowed) fixed) (omega (arith, w, a)))

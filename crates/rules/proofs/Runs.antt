@@ -1,6 +1,6 @@
 -- Tests over a list, and how many bytes at its front pass them.
 use mathlib.Core.Path.{_≡_, _∙_, refl, sym}
-use mathlib.Core.Bool.{Bool, true, false}
+use mathlib.Core.Bool.{Bool, true, false, _&&_}
 use mathlib.Core.List.{List, [], _∷_}
 use Prim.Native.Nat.{ℕ, zero, suc, _+_, _≤_, _<_, compare·suc-suc}
 use native.Mathlib.Nat.{not-suc-le-zero, le-of-suc-le-suc}
@@ -52,6 +52,23 @@ module _ (p : ℕ → Bool) where
   pub run-end : (s : List ℕ) (i : ℕ) → length s ≤ i → i + run p (drop i s) ≡ i
   unfolding run
   run-end s i h = rw (drop-of-length-le s h) (omega arith)
+
+  -- the test at each byte from place i on is the test there and at each byte after it
+  pub all-on : (s : List ℕ) (i : ℕ) (t b : Bool) → i < length s → b ≡ p (getD s i 0) → (t && b) && all p (drop (i + 1) s) ≡ t && all p (drop i s)
+  unfolding all
+  all-on s i true b h e = rw (add-one i, drop-cons s i 0 h, e)
+  all-on s i false b h e = refl
+
+  -- no byte is left: the test holds at each
+  pub all-end : (s : List ℕ) (i : ℕ) → length s ≤ i → all p (drop i s) ≡ true
+  unfolding all
+  all-end s i h = rw (drop-of-length-le s h)
+
+  -- a test that always holds holds at each byte
+  pub all-always : ((b : ℕ) → p b ≡ true) → (s : List ℕ) → all p s ≡ true
+  unfolding all
+  all-always h [] = refl
+  all-always h (x ∷ xs) = rw (h x) (all-always h xs)
 
   -- a test that holds at each byte holds at this one
   pub all-at : (s : List ℕ) (i : ℕ) → all p s ≡ true → i < length s → p (getD s i 0) ≡ true

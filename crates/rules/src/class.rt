@@ -2,6 +2,7 @@
 ghost use mathlib.Core.Path.{_≡_};
 ghost use Rattle.cells.specs.Bytes.{within, run};
 ghost use Rattle.rules.specs.Class.{belongs, allOf, ofClass, padded, named};
+ghost use Rattle.rules.specs.declared.class.Class.the-variants.{Allowed};
 use cells::part;
 
 pub const BLANK: u8 = 32;
@@ -79,11 +80,37 @@ pub fn run_of(c: Class, s: &[u8]) -> usize
     i
 }
 
+// Whether each byte is allowed; no byte ends the loop, so that many are judged at once.
+fn are_allowed(s: &[u8]) -> bool
+    ensures { λ r. ⌜ r ≡ allOf Allowed (now (s .entry)) ⌝ }
+{
+    let mut kept = true;
+    let mut i: usize = 0;
+    while i < s.len() {
+        kept = kept & belongs_to(Class::Allowed, s[i]);
+        i += 1;
+    }
+    kept
+}
+
+// How many bytes at the front are allowed; most often all.
+pub fn allowed_run(s: &[u8]) -> usize
+    ensures { λ r. ⌜ r ≡ run (belongs Allowed) (now (s .entry)) ⌝ }
+{
+    if are_allowed(s) {
+        return s.len();
+    }
+    run_of(Class::Allowed, s)
+}
+
 // Whether each byte is of a class.
 pub fn all_of(c: Class, s: &[u8]) -> bool
     ensures { λ r. ⌜ r ≡ allOf c (now (s .entry)) ⌝ }
 {
-    run_of(c, s) == s.len()
+    match c {
+        Class::Any => true,
+        _ => run_of(c, s) == s.len(),
+    }
 }
 
 // Whether there are least to most bytes, all of a class.
@@ -109,6 +136,11 @@ pub fn is_named(c: Class, s: &[u8]) -> bool
     if s.len() == 0 {
         return true;
     }
-    let first = s[0];
-    all_of(c, s) & (all_of(Class::Blank, s) | (first != BLANK))
+    if !all_of(c, s) {
+        return false;
+    }
+    if s[0] != BLANK {
+        return true;
+    }
+    all_of(Class::Blank, s)
 }

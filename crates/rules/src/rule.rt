@@ -66,7 +66,7 @@ fn is_in_row(s: &[u8], row: &[u8], width: usize, count: usize) -> bool
 }
 
 // Whether a field holds one of the texts.
-fn is_one_of(t: Texts, s: &[u8]) -> bool
+pub fn is_one_of(t: Texts, s: &[u8]) -> bool
     ensures { λ r. ⌜ r ≡ among (now (s .entry)) (texts t) ⌝ }
 {
     match t {
@@ -83,7 +83,7 @@ fn is_one_of(t: Texts, s: &[u8]) -> bool
 }
 
 // One to three digits that spell a number from 1 to 360.
-fn is_day_count(s: &[u8]) -> bool
+pub fn is_day_count(s: &[u8]) -> bool
     ensures { λ r. ⌜ r ≡ dayCount (now (s .entry)) ⌝ }
 {
     if !of_class(Class::Digit, 1, 3, s) {
@@ -93,7 +93,7 @@ fn is_day_count(s: &[u8]) -> bool
     (1 <= n) & (n <= MOST_DAYS)
 }
 
-fn is_day(s: &[u8]) -> bool
+pub fn is_day(s: &[u8]) -> bool
     ensures { λ r. ⌜ r ≡ isDay (now (s .entry)) ⌝ }
 {
     match Day::of_digits(s) {

@@ -26,16 +26,15 @@ all-unbarred (b ∷ bs) =
     let ih = all-unbarred bs in
     split (barred b) (λ e. rw e) (λ e. rw e ih)
 
--- not both, or not one of the two
-either : (g a : Bool) → (not g || not a) ≡ not (g && a)
-either true a = refl
-either false a = refl
-
--- a content by the tests that the code makes: of bytes not barred where its ID is guarded, and as its rule says
-pub kept-by : (k : Kind) (id : ℕ) (s : List ℕ)
-    → (not (guarded k id) || allOf Unbarred s) && keeps (contentRule id) [] s ≡ contentKept k id s
+-- a content by the tests that the code makes: as its rule says where its ID is not guarded
+pub kept-free : (k : Kind) (id : ℕ) (s : List ℕ) → guarded k id ≡ false → keeps (contentRule id) [] s ≡ contentKept k id s
 unfolding contentKept
-kept-by k id s = rw (all-unbarred s, either (guarded k id) (any barred s))
+kept-free k id s h = rw h
+
+-- and of bytes not barred where it is
+pub kept-by : (k : Kind) (id : ℕ) (s : List ℕ) → guarded k id ≡ true → allOf Unbarred s && keeps (contentRule id) [] s ≡ contentKept k id s
+unfolding contentKept
+kept-by k id s h = rw (h, all-unbarred s)
 
 -- whether an entry can be written: not with an ID past the last, not outside the lent bytes, else by its content's bytes
 module _ (contents : List ℕ) (e : Entry) where

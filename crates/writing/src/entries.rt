@@ -83,7 +83,10 @@ fn is_writable(contents: &[u8], e: Entry) -> bool
 fn content_kept(k: Kind, id: usize, content: &[u8]) -> bool
     ensures { λ r. ⌜ r ≡ contentKept k id (now (content .entry)) ⌝ }
 {
-    (!is_guarded(k, id) | all_of(Class::Unbarred, content)) & rule_kept(id, content)
+    if !is_guarded(k, id) {
+        return rule_kept(id, content);
+    }
+    all_of(Class::Unbarred, content) & rule_kept(id, content)
 }
 
 // Whether an entry can be written as a field.

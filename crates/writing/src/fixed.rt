@@ -12,8 +12,7 @@ use record::layout::field_of;
 use record::layout::first_broken;
 use record::layout::fixed_width;
 use record::layout::kind_of;
-use rules::class::Class;
-use rules::class::run_of;
+use rules::class::allowed_run;
 
 // The index of the field that the byte at a place stands in, or the number of fields past them.
 pub fn field_holding(k: Kind, place: usize) -> usize
@@ -45,8 +44,11 @@ pub fn first_faulty(k: Kind, fixed: &[u8]) -> usize
     ensures { λ r. ⌜ r ≡ firstFaulty k (now (fixed .entry)) ⌝ }
 {
     let broken = first_broken(k, fixed);
-    let holding = field_holding(k, run_of(Class::Allowed, fixed));
-    smaller(broken, holding)
+    let allowed = allowed_run(fixed);
+    if fixed_width(k) <= allowed {
+        return broken;
+    }
+    smaller(broken, field_holding(k, allowed))
 }
 
 // 5: the first fixed field that is not as it has to be.

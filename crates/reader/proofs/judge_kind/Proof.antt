@@ -32,14 +32,14 @@ returns c =
     let h = rw (c .before .fixed-width .ensures) at (c .if1 .taken) in
     sym (kind-short _ _ h)
 
-run-of-requires : tie.Need-run-of-requires
-run-of-requires c κs = search needs
+allowed-run-requires : tie.Need-allowed-run-requires
+allowed-run-requires c κs = search needs
 
 returns-2 : tie.Need-returns-2
 returns-2 c =
     let r = c .before in
-    ap (λ (n : ℕ). Refused (Byte n)) (r .run-of .ensures)
-    ∙ sym (kind-byte _ _ (wide (r .before)) (λ e. c .if2 .taken (r .run-of .ensures ∙ e)))
+    ap (λ (n : ℕ). Refused (Byte n)) (r .allowed-run .ensures)
+    ∙ sym (kind-byte _ _ (wide (r .before)) (λ e. c .if2 .taken (r .allowed-run .ensures ∙ e)))
 
 first-broken-requires : tie.Need-first-broken-requires
 first-broken-requires c κs = search needs
@@ -57,7 +57,7 @@ returns-3 c =
     let r = b .before .before in
     let place = c .start-of .ensures ∙ ap (startOf (layout (r .before .before .before .before .args .k))) (b .first-broken .ensures) in
     ap (λ (n : ℕ). Refused (FixedField n)) place
-    ∙ sym (kind-fixed _ _ (wide (r .before)) (sym (r .run-of .ensures) ∙ b .before .if2 .left)
+    ∙ sym (kind-fixed _ _ (wide (r .before)) (sym (r .allowed-run .ensures) ∙ b .before .if2 .left)
     (λ e. c .before .if3 .taken (b .first-broken .ensures ∙ e ∙ sym (d .field-count .ensures))))
 
 judge-optional-requires : tie.Need-judge-optional-requires
@@ -72,7 +72,7 @@ returns-4 c =
     let k = r .before .before .before .before .args .k in
     c .judge-optional .ensures
     ∙ ap (λ (n : ℕ). optionalJudged k n (drop n s)) (r .before .before .fixed-width .ensures)
-    ∙ sym (kind-rest _ _ (wide (r .before)) (sym (r .run-of .ensures) ∙ b .before .if2 .left)
+    ∙ sym (kind-rest _ _ (wide (r .before)) (sym (r .allowed-run .ensures) ∙ b .before .if2 .left)
     (sym (b .first-broken .ensures) ∙ c .before .if3 .left ∙ d .field-count .ensures))
 
 pub judge-kind-spec : {M : Type 1} → statement M
@@ -82,7 +82,7 @@ judge-kind-spec =
     fixed-width-requires
     add-if1
     returns
-    run-of-requires
+    allowed-run-requires
     returns-2
     first-broken-requires
     field-count-requires
