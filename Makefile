@@ -3,7 +3,7 @@
 #   make test                         the whole gate; its last line is `N passed, 0 failed`
 # Besides: make lib, make host, make compare, make bench, make fuzz, make clean.
 
-.PHONY: book test lib host compare sanitized header bench fuzz tools clean
+.PHONY: book test lib host compare desk-compare sanitized header bench fuzz tools clean
 
 # The library is x86-64 code. On another machine its C programs are built by Debian's cross compiler and run under its emulator.
 ifeq ($(shell uname -m),x86_64)
@@ -40,7 +40,7 @@ test: tools
 	@log=$$(mktemp); trap 'rm -f $$log' EXIT; \
 	rt ci 2>&1 | tee $$log; verdict=$$(tail -n 1 $$log); \
 	case "$$verdict" in *" passed, 0 failed") ;; *) exit 1 ;; esac; \
-	$(MAKE) --no-print-directory header compare sanitized host-test && echo "$$verdict"
+	$(MAKE) --no-print-directory header compare desk-compare sanitized host-test && echo "$$verdict"
 
 lib: $(LIBRARY)
 
@@ -51,7 +51,13 @@ host: target/c/wizqamul-host
 compare: target/c/compare
 	@$(RUN) target/c/compare
 
-# The same for longer, with fresh seeds, until it is stopped.
+# What the desk program must print of its stored day and of the example, by the independent implementation.
+desk-compare: target/c/desk target/bin/desk
+	@$(RUN) target/c/desk < crates/desk/stdin | cmp - crates/desk/stdout
+	@$(RUN) target/bin/desk < examples/day.bwa > target/c/day.out && $(RUN) target/c/desk < examples/day.bwa | cmp - target/c/day.out
+	@echo "desk: 2 days compared, 0 differences"
+
+# The comparison for longer, with fresh seeds, until it is stopped.
 SEED ?= 1
 fuzz: target/c/compare
 	@$(RUN) target/c/compare 0 $(SEED)
@@ -63,7 +69,7 @@ bench: target/c/bench
 
 # A part of the comparison with the C side under AddressSanitizer and UBSan, where the compiler has them.
 SANITIZE = -g -fsanitize=address,undefined -fno-sanitize-recover=undefined
-sanitized: $(LIBRARY) $(DRIVER) $(REFERENCE) $(HEADERS)
+sanitized: $(LIBRARY) $(DRIVER) $(REFERENCE) $(HEADERS) | tools target/c
 	@if [ -z "$(RUN)" ] && echo 'int main(void) { return 0; }' | $(COMPILER) -x c $(SANITIZE) -o target/c/probe - 2> /dev/null && target/c/probe; then \
 	$(COMPILER) $(WARNINGS) -O1 $(SANITIZE) -o target/c/compare-sanitized $(DRIVER) $(REFERENCE) $(LIBRARY) && target/c/compare-sanitized 300000 | tail -n 1; \
 	else echo "sanitizers: not on this machine"; fi
@@ -85,6 +91,9 @@ $(LIBRARY): $(RATTLE)
 
 target/c/compare: $(DRIVER) $(REFERENCE) $(HEADERS) $(LIBRARY) | tools target/c
 	@$(COMPILER) $(WARNINGS) -O2 -o $@ $(DRIVER) $(REFERENCE) $(LIBRARY)
+
+target/c/desk: tests/desk.c $(REFERENCE) $(HEADERS) | tools target/c
+	@$(COMPILER) $(WARNINGS) -O2 -o $@ tests/desk.c $(REFERENCE)
 
 target/c/bench: tests/bench.c $(REFERENCE) $(HEADERS) $(LIBRARY) | tools target/c
 	@$(COMPILER) $(WARNINGS) -O2 -o $@ tests/bench.c $(REFERENCE) $(LIBRARY)

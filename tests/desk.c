@@ -1,0 +1,41 @@
+/* desk: what the desk program of document 01 prints of the records on standard input, by
+   the reference. One line a record: number, kind letter, answer, ordered, filled, open,
+   let go, extra. */
+#include "reference.h"
+#include "reference_parts.h"
+
+#include <inttypes.h>
+#include <stdio.h>
+
+enum { DESK_LINES = 256, DESK_SLIPS = 512, MOST_INPUT = 1 << 24 };
+
+static uint8_t lines[DESK_LINES * LINE_WIDTH], slips[DESK_SLIPS * SLIP_WIDTH];
+static uint8_t input[MOST_INPUT];
+static size_t used[2];
+
+/* Books one record and prints its line. Too long, and no known kind, have no letter. */
+static void answer_record(size_t number, const uint8_t *record, size_t length)
+{
+    wq_booked booked = ref_book(record, length, lines, sizeof lines, slips, sizeof slips, used);
+    int letter = booked.answer == 1 || booked.answer == 2 ? '?' : record[0];
+    printf("%zu %c %" PRIu64 " %" PRIu64 " %" PRIu64 " %" PRIu64 " %" PRIu64 " %" PRIu64 "\n",
+           number, letter, booked.answer, booked.ordered, booked.filled, booked.still_open,
+           booked.let_go, booked.extra);
+}
+
+int main(void)
+{
+    size_t length = fread(input, 1, sizeof input, stdin), start = 0, number = 0;
+    if (length == sizeof input)
+        return 2;
+    for (size_t i = 0; i + 1 < length; i++) {
+        if (input[i] != '\r' || input[i + 1] != '\n')
+            continue;
+        answer_record(++number, input + start, i - start);
+        start = i + 2;
+        i++;
+    }
+    if (start < length)
+        answer_record(++number, input + start, length - start);
+    return 0;
+}
