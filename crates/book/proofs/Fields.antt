@@ -1,63 +1,29 @@
 -- The fields of a record that fits: each keeps its rule and has its length; so keys have their widths, and a quantity at most four digits.
-use mathlib.Core.Path.{_≡_, _∙_, refl}
+use mathlib.Core.Path.{_≡_, refl}
 use mathlib.Core.Bool.{Bool, true}
 use mathlib.Core.List.{List, [], _∷_}
-use Prim.Native.Nat.{ℕ, zero, suc, _+_, _^_, _≤_, _<_}
-use native.Mathlib.Nat.{add-zero, pow-le-pow-right}
-use native.Mathlib.Numerals.{add-one}
+use Prim.Native.Nat.{ℕ, _+_, _^_, _≤_, _<_}
+use native.Mathlib.Nat.{pow-le-pow-right}
 use native.Mathlib.Omega.{arith}
 use borrow.Author.Tests.{ltb-true}
 use lib.Dec.{ltb, lit<}
-use lib.ListN.{length, getD, take, drop, length-append}
-use lib.Seq.{slice, length-slice}
+use lib.ListN.{length, getD, length-append}
 use Rattle.cells.specs.Bytes.{all, within}
-use Rattle.cells.proofs.Bools.{split, and-left, and-right}
-use Rattle.cells.proofs.Parts.{slice-drop}
+use Rattle.cells.proofs.Bools.{and-left, and-right}
 use Rattle.rules.specs.Class.{belongs, allOf, ofClass}
 use Rattle.rules.specs.Number.{number}
 use Rattle.rules.specs.Rule.{keeps}
 use Rattle.rules.specs.declared.class.Class.the-variants.{Digit}
 use Rattle.rules.proofs.Digits.{width}
 use Rattle.rules.proofs.Fits.{at-most}
-use Rattle.record.specs.Layout.{noField, layout, total, fixedWidth, startOf, firstBroken}
+use Rattle.record.specs.Layout.{noField, layout, fixedWidth}
 use Rattle.record.specs.Values.{fieldBytes}
-use Rattle.record.specs.declared.layout.Field.{Field}
 use Rattle.record.specs.declared.layout.Kind.{Kind}
 use Rattle.record.specs.declared.layout.Kind.the-variants.{Order, Goods}
-use Rattle.record.proofs.Layouts.{start-most, start-next}
+use Rattle.record.proofs.Kept.{each-kept, field-length}
 use Rattle.reader.proofs.Fitting.{Fitting}
 use Rattle.entry.specs.Stored.{keyWidth, slipKeyWidth, mostCopies}
 use Rattle.book.specs.Booking.{fieldsAt, keyFields, lineKey, slipKey, copiesIn}
-
--- where no field is broken, the first keeps its rule, and none is broken after it
-module _ (f : Field) (fs : List Field) (s : List ℕ) (e : firstBroken (f ∷ fs) s ≡ suc (length fs)) where
-  first-kept : keeps (f .rule) (slice (f .size) (f .size + 2) s) (take (f .size) s) ≡ true
-  unfolding firstBroken
-  first-kept = split (keeps (f .rule) (slice (f .size) (f .size + 2) s) (take (f .size) s)) (λ q. q) (λ q. absurd (omega (arith, rw q at e)))
-
-  rest-kept : firstBroken fs (drop (f .size) s) ≡ length fs
-  unfolding firstBroken
-  rest-kept = omega (arith, rw first-kept at e)
-
--- where no field is broken, each keeps its rule
-pub each-kept : (fs : List Field) (s : List ℕ) (i : ℕ) → firstBroken fs s ≡ length fs
-    → keeps (getD fs i noField .rule) (slice (startOf fs (suc i)) (startOf fs (suc i) + 2) s) (slice (startOf fs i) (startOf fs (suc i)) s) ≡ true
-unfolding startOf total keeps
-each-kept [] s i e = refl
-each-kept (f ∷ fs) s zero e = rw (add-zero (f .size)) (first-kept f fs s e)
-each-kept (f ∷ fs) s (suc i) e =
-    let a : f .size + (startOf fs (suc i) + 2) ≡ f .size + startOf fs (suc i) + 2 = omega arith in
-    let ih = each-kept fs (drop (f .size) s) i (rest-kept f fs s e) in
-    rw (slice-drop (startOf fs i) (startOf fs (suc i)) (f .size) s, slice-drop (startOf fs (suc i)) (startOf fs (suc i) + 2) (f .size) s, a) at ih
-
--- each field has its length, where the list is long enough
-pub field-length : (k : Kind) (s : List ℕ) → fixedWidth k ≤ length s → (i : ℕ) → i < length (layout k)
-    → length (fieldBytes k i s) ≡ getD (layout k) i noField .size
-unfolding fieldBytes fixedWidth
-field-length k s h i l =
-    let m = start-most (layout k) (suc i) in
-    let t : startOf (layout k) (suc i) ≡ startOf (layout k) i + getD (layout k) i noField .size = rw (← add-one i) (start-next (layout k) i l _ refl) in
-    length-slice (startOf (layout k) i) (startOf (layout k) (suc i)) s (omega arith) ∙ omega arith
 
 -- the lengths of the fields with some indexes, added up
 abbrev pub widths : Kind → List ℕ → ℕ

@@ -26,7 +26,7 @@ use Rattle.record.specs.declared.layout.Kind.{Kind}
 use Rattle.record.specs.declared.layout.Kind.the-variants.{Order, Goods}
 use Rattle.reader.proofs.Fitting.{Fitting}
 use Rattle.book.specs.Booking.{fieldsAt, keyFields, lineKey, slipFields, slipKey, nothingToBook, noReference}
-use Rattle.book.proofs.Fields.{each-kept, field-length}
+use Rattle.record.proofs.Kept.{each-kept, field-length}
 use Rattle.save.specs.Entries.{referenceAt, slipNumberAt, nameWidth, goodsFields, keyKept, partiesAgree}
 use Rattle.restored.proofs.Cuts.{part-past}
 

@@ -2,22 +2,21 @@
 use mathlib.Core.Path.{_≡_, _∙_, ap, sym, refl}
 use mathlib.Core.Bool.{Bool, true}
 use mathlib.Core.List.{List, [], _∷_, _++_, map, append-assoc}
-use Prim.Native.Nat.{ℕ, zero, suc, _+_, _≤_, _<_}
+use Prim.Native.Nat.{ℕ, zero, suc, _+_}
 use native.Mathlib.Nat.{add-zero, zero-add}
-use native.Mathlib.Numerals.{add-one}
 use native.Mathlib.Omega.{arith}
 use lib.ListN.{length, getD, take, drop}
-use lib.Seq.{slice, take-nil, take-at, drop-at, length-slice}
+use lib.Seq.{slice, take-nil, take-at, drop-at}
 use Rattle.cells.specs.Bytes.{all}
-use Rattle.cells.proofs.Bools.{split, and-left, and-right}
+use Rattle.cells.proofs.Bools.{and-left, and-right}
 use Rattle.cells.proofs.Parts.{slice-drop, nothing, parts-join}
 use Rattle.cells.proofs.Lists.{all-append}
 use Rattle.rules.specs.Rule.{keeps}
-use Rattle.record.specs.Layout.{noField, layout, total, fixedWidth, startOf, firstBroken}
+use Rattle.record.specs.Layout.{noField, layout, total, startOf, firstBroken}
 use Rattle.record.specs.Values.{fieldBytes}
 use Rattle.record.specs.declared.layout.Field.{Field}
 use Rattle.record.specs.declared.layout.Kind.{Kind}
-use Rattle.record.proofs.Layouts.{start-most, start-next}
+use Rattle.record.proofs.Kept.{each-kept}
 use Rattle.writing.specs.Typed.{joined}
 
 -- how long the fields of a layout are
@@ -66,27 +65,6 @@ fields-there (f ∷ fs) at s = rw (fields-there fs (at + f .size) s) (parts-join
 pub fields-joined : (fs : List Field) (s : List ℕ) → joined (fieldsFrom fs 0 s) ≡ take (total fs) s
 fields-joined fs s = fields-there fs 0 s ∙ ap (λ (n : ℕ). take n s) (zero-add (total fs))
 
--- where no field is broken, the first keeps its rule, and none is broken after it
-module _ (f : Field) (fs : List Field) (s : List ℕ) (e : firstBroken (f ∷ fs) s ≡ suc (length fs)) where
-  first-kept : keeps (f .rule) (slice (f .size) (f .size + 2) s) (take (f .size) s) ≡ true
-  unfolding firstBroken
-  first-kept = split (keeps (f .rule) (slice (f .size) (f .size + 2) s) (take (f .size) s)) (λ q. q) (λ q. absurd (omega (arith, rw q at e)))
-
-  rest-kept : firstBroken fs (drop (f .size) s) ≡ length fs
-  unfolding firstBroken
-  rest-kept = omega (arith, rw first-kept at e)
-
--- where no field is broken, each keeps its rule
-each-kept : (fs : List Field) (s : List ℕ) (i : ℕ) → firstBroken fs s ≡ length fs
-    → keeps (getD fs i noField .rule) (slice (startOf fs (suc i)) (startOf fs (suc i) + 2) s) (slice (startOf fs i) (startOf fs (suc i)) s) ≡ true
-unfolding startOf total keeps
-each-kept [] s i e = refl
-each-kept (f ∷ fs) s zero e = rw (add-zero (f .size)) (first-kept f fs s e)
-each-kept (f ∷ fs) s (suc i) e =
-    let a : f .size + (startOf fs (suc i) + 2) ≡ f .size + startOf fs (suc i) + 2 = omega arith in
-    let ih = each-kept fs (drop (f .size) s) i (rest-kept f fs s e) in
-    rw (slice-drop (startOf fs i) (startOf fs (suc i)) (f .size) s, slice-drop (startOf fs (suc i)) (startOf fs (suc i) + 2) (f .size) s, a) at ih
-
 -- the fields of a list by a kind's layout
 module _ (k : Kind) (s : List ℕ) where
   -- each keeps its rule, where none is broken
@@ -94,11 +72,3 @@ module _ (k : Kind) (s : List ℕ) where
       → keeps (getD (layout k) i noField .rule) (slice (startOf (layout k) (suc i)) (startOf (layout k) (suc i) + 2) s) (fieldBytes k i s) ≡ true
   unfolding fieldBytes
   field-kept e i = each-kept (layout k) s i e
-
-  -- each has its length, where the list is long enough
-  pub field-length : fixedWidth k ≤ length s → (i : ℕ) → i < length (layout k) → length (fieldBytes k i s) ≡ getD (layout k) i noField .size
-  unfolding fieldBytes fixedWidth
-  field-length h i l =
-      let m = start-most (layout k) (suc i) in
-      let t : startOf (layout k) (suc i) ≡ startOf (layout k) i + getD (layout k) i noField .size = rw (← add-one i) (start-next (layout k) i l _ refl) in
-      length-slice (startOf (layout k) i) (startOf (layout k) (suc i)) s (omega arith) ∙ omega arith

@@ -27,7 +27,8 @@ use Rattle.writing.proofs.Decimals.{number-length}
 use Rattle.writing.proofs.Days.{day-length, delivery-day-length, expected-length}
 use Rattle.roundtrip.specs.Demand2.{OrderShaped, DeliveryShaped, ReportShaped}
 use Rattle.roundtrip.proofs.Sequences.{one-byte}
-use Rattle.roundtrip.proofs.FixedFields.{sizes, field-is, all-joined, fieldsFrom, fields-joined, field-kept, field-length}
+use Rattle.roundtrip.proofs.FixedFields.{sizes, field-is, all-joined, fieldsFrom, fields-joined, field-kept}
+use Rattle.record.proofs.Kept.{field-length}
 use Rattle.roundtrip.proofs.ValuesBack.{AllAllowed, number-back, day-back, delivery-day-back, expected-back}
 use Rattle.roundtrip.proofs.BytesBack.{number-bytes, zeros-digits, zeros-are, day-bytes, goods-day-bytes, closing-day-bytes, expected-bytes}
 
