@@ -1,10 +1,14 @@
 // An entry of a saved book, judged by its body.
 ghost use mathlib.Core.Path.{_≡_};
+ghost use mathlib.Core.List.{[], _∷_};
 ghost use Prim.Native.Nat.{_+_, _*_, _≤_};
+ghost use lib.Dec.{eqb};
 ghost use lib.ListN.{length};
-ghost use Rattle.save.specs.Entries.{goodsFields, keyKept, lineKept, partiesAgree, slipKept};
+ghost use Rattle.save.specs.Entries.{referenceAt, slipNumberAt, goodsFields, keyKept, lineKept, partiesAgree, slipKept};
 ghost use Rattle.save.specs.Saved.{lineBodyWidth, slipBodyWidth, savedLineWidth, lineIn};
 ghost use Rattle.record.specs.Layout.{firstBroken};
+ghost use Rattle.record.specs.declared.layout.Kind.the-variants.{Goods};
+ghost use Rattle.book.specs.Booking.{keyFields, slipFields};
 use cells::little::get2;
 use cells::part;
 use cells::same;
@@ -15,66 +19,97 @@ use entry::stored::MOST_COPIES;
 use entry::stored::MOST_MARK;
 use entry::stored::SLIP_COPIES_AT;
 use entry::stored::SLIP_KEY_WIDTH;
-use record::layout::Kind;
-use record::layout::field_of;
+use rules::article::is_article;
 use rules::class::Class;
 use rules::class::all_of;
-use rules::rule::keeps_rule;
+use rules::class::allowed_run;
+use rules::class::is_named;
+use rules::class::is_padded;
+use rules::class::of_class;
+use rules::rule::Texts;
+use rules::rule::is_day;
+use rules::rule::is_one_of;
 
 // A byte of kind and a body.
 pub const SAVED_LINE_WIDTH: usize = 53;
 
 pub const SAVED_SLIP_WIDTH: usize = 51;
 
+// Both keys begin with two addresses, each with its qualifier.
 const PARTY_WIDTH: usize = 12;
+
+const FIRST_QUALIFIER_AT: usize = 10;
+
+const SECOND_QUALIFIER_AT: usize = 22;
 
 const PARTIES_END: usize = 24;
 
+// Where the other fields of a line's key stand.
 const REFERENCE_AT: usize = 24;
+
+const ARTICLE_AT: usize = 34;
+
+const ARTICLE_QUALIFIER_AT: usize = 47;
+
+// And those of a slip's key.
+const DATE_AT: usize = 24;
 
 const SLIP_NUMBER_AT: usize = 32;
 
-const NAME_WIDTH: usize = 10;
+const POSITION_AT: usize = 42;
 
-// The fields of a goods record that a line's key has: recipient, sender, reference, article.
-const LINE_FIELDS: [usize; 7] = [3, 4, 1, 2, 8, 9, 10];
+const POSITION_WIDTH: usize = 4;
 
-// And a slip's key: sender, recipient, date, slip number, position.
-const SLIP_FIELDS: [usize; 7] = [1, 2, 3, 4, 5, 6, 7];
-
-// The first of the fields of a goods record that breaks its rule, or their number.
-fn first_key_broken(fields: &[usize], key: &[u8]) -> usize
-    requires { ⌜ length (now fields) ≤ 7 ⌝ }
-    ensures { λ r. ⌜ r ≡ firstBroken (goodsFields (now (fields .entry))) (now (key .entry)) ⌝ }
+// Whether a key begins with two addresses and their qualifiers.
+fn are_parties(key: &[u8]) -> bool
+    ensures { λ r. ⌜ r ≡ eqb (firstBroken (goodsFields (1 ∷ 2 ∷ 3 ∷ 4 ∷ [])) (now (key .entry))) 4 ⌝ }
 {
-    let mut at: usize = 0;
-    let mut i: usize = 0;
-    while i < fields.len() {
-        let index = fields[i];
-        let f = field_of(Kind::Goods, index);
-        let rule = f.rule;
-        let end = at + f.size;
-        if !keeps_rule(rule, part(key, end, end + 2), part(key, at, end)) {
-            return i;
-        }
-        at = end;
-        i += 1;
-    }
-    i
+    (is_padded(Class::Account, 1, 10, part(key, 0, FIRST_QUALIFIER_AT))
+        & is_one_of(Texts::Party, part(key, FIRST_QUALIFIER_AT, PARTY_WIDTH)))
+        & (is_padded(
+            Class::Account,
+            1,
+            10,
+            part(key, PARTY_WIDTH, SECOND_QUALIFIER_AT),
+        )
+            & is_one_of(Texts::Party, part(key, SECOND_QUALIFIER_AT, PARTIES_END)))
 }
 
-// Whether a key's fields obey the rules of goods records, and its name, which stands at a place, is not blank.
-fn is_key(fields: &[usize], at: usize, key: &[u8]) -> bool
-    requires { ⌜ (length (now fields) ≤ 7) × (at ≤ 32) ⌝ }
-    ensures { λ r. ⌜ r ≡ keyKept (now (fields .entry)) at (now (key .entry)) ⌝ }
+// Whether a line's key keeps the rules: its parties, its reference, which is not blank, and its article with its qualifier.
+fn is_line_key(key: &[u8]) -> bool
+    ensures { λ r. ⌜ r ≡ keyKept (keyFields Goods) referenceAt (now (key .entry)) ⌝ }
 {
-    if !all_of(Class::Allowed, key) {
+    if allowed_run(key) != key.len() {
         return false;
     }
-    if first_key_broken(fields, key) != fields.len() {
+    if !are_parties(key) {
         return false;
     }
-    !all_of(Class::Blank, part(key, at, at + NAME_WIDTH))
+    let reference = part(key, REFERENCE_AT, ARTICLE_AT);
+    let article = part(key, ARTICLE_AT, ARTICLE_QUALIFIER_AT);
+    let qualifier = part(key, ARTICLE_QUALIFIER_AT, KEY_WIDTH);
+    (is_named(Class::Any, reference)
+        & (is_article(qualifier, article) & is_one_of(Texts::Numbering, qualifier)))
+        & !all_of(Class::Blank, reference)
+}
+
+// Whether a slip's key keeps the rules: its parties, its date, its slip number, which is not blank, and its position.
+fn is_slip_key(key: &[u8]) -> bool
+    ensures { λ r. ⌜ r ≡ keyKept slipFields slipNumberAt (now (key .entry)) ⌝ }
+{
+    if allowed_run(key) != key.len() {
+        return false;
+    }
+    if !are_parties(key) {
+        return false;
+    }
+    let date = part(key, DATE_AT, SLIP_NUMBER_AT);
+    let slip_number = part(key, SLIP_NUMBER_AT, POSITION_AT);
+    let position = part(key, POSITION_AT, SLIP_KEY_WIDTH);
+    (is_day(date)
+        & (is_named(Class::Any, slip_number)
+            & of_class(Class::Digit, POSITION_WIDTH, POSITION_WIDTH, position)))
+        & !all_of(Class::Blank, slip_number)
 }
 
 // Whether a line of a save keeps the rules.
@@ -82,7 +117,7 @@ pub fn is_line_kept(body: &[u8]) -> bool
     requires { ⌜ length (now body) ≡ lineBodyWidth ⌝ }
     ensures { λ r. ⌜ r ≡ lineKept (now (body .entry)) ⌝ }
 {
-    if !is_key(&LINE_FIELDS, REFERENCE_AT, part(body, 0, KEY_WIDTH)) {
+    if !is_line_key(part(body, 0, KEY_WIDTH)) {
         return false;
     }
     let ordered = get2(body, KEY_WIDTH);
@@ -118,7 +153,7 @@ pub fn is_slip_kept(s: &[u8], n: usize, body: &[u8]) -> bool
     requires { ⌜ (savedLineWidth * n ≤ length (now s)) × (length (now body) ≡ slipBodyWidth) ⌝ }
     ensures { λ r. ⌜ r ≡ slipKept n (lineIn (now (s .entry))) (now (body .entry)) ⌝ }
 {
-    if !is_key(&SLIP_FIELDS, SLIP_NUMBER_AT, part(body, 0, SLIP_KEY_WIDTH)) {
+    if !is_slip_key(part(body, 0, SLIP_KEY_WIDTH)) {
         return false;
     }
     let copies = get2(body, SLIP_COPIES_AT);

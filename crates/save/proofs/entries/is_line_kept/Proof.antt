@@ -11,18 +11,14 @@ use Rattle.save.proofs.entries.is_line_kept.Statement.{statement}
 use Rattle.save.proofs.entries.is_line_kept.Tie as tie
 
 -- the key is judged as a line's
-key-here : (c : tie.After-is-key) → c .is-key .result ≡ keyKept (keyFields Goods) referenceAt (take keyWidth (c .before .before .before .before .args .body .now))
-unfolding keyFields
-key-here c = c .is-key .ensures ∙ rw (c .before .part .ensures)
-
-slice-aggregate-is-key : tie.Need-slice-aggregate-is-key
-slice-aggregate-is-key c = search needs
+key-here : (c : tie.After-is-line-key) → c .is-line-key .result ≡ keyKept (keyFields Goods) referenceAt (take keyWidth (c .before .before .before .args .body .now))
+key-here c = c .is-line-key .ensures ∙ rw (c .before .part .ensures)
 
 part-requires : tie.Need-part-requires
 part-requires c κs = search needs
 
-is-key-requires : tie.Need-is-key-requires
-is-key-requires c κs = search needs
+is-line-key-requires : tie.Need-is-line-key-requires
+is-line-key-requires c κs = search needs
 
 returns : tie.Need-returns
 unfolding lineKept
@@ -44,9 +40,8 @@ pub is-line-kept-spec : {M : Type 1} → statement M
 is-line-kept-spec =
     tie.close
     (tie.spec
-    slice-aggregate-is-key
     part-requires
-    is-key-requires
+    is-line-key-requires
     returns
     get2-requires
     shared-slice-read-result

@@ -12,28 +12,25 @@ use Rattle.save.proofs.entries.is_slip_kept.Statement.{statement}
 use Rattle.save.proofs.entries.is_slip_kept.Tie as tie
 
 -- the key is judged as a slip's
-key-here : (c : tie.After-is-key) → c .is-key .result ≡ keyKept slipFields slipNumberAt (take slipKeyWidth (c .before .before .before .before .before .args .body .now))
-key-here c = c .is-key .ensures ∙ rw (c .before .part .ensures)
+key-here : (c : tie.After-is-slip-key) → c .is-slip-key .result ≡ keyKept slipFields slipNumberAt (take slipKeyWidth (c .before .before .before .before .args .body .now))
+key-here c = c .is-slip-key .ensures ∙ rw (c .before .part .ensures)
 
 -- so are the copies
 copies-here : (c : tie.After-get2)
-    → within 1 mostCopies (c .get2 .result) ≡ within 1 mostCopies (slipCopies (c .before .before .before .before .before .before .before .args .body .now))
+    → within 1 mostCopies (c .get2 .result) ≡ within 1 mostCopies (slipCopies (c .before .before .before .before .before .before .args .body .now))
 unfolding slipCopies
 copies-here c = ap (within 1 mostCopies) (c .get2 .ensures .is)
 
 -- the number read is the index of its line
-index-here : (c : tie.After-get22) → c .get22 .result ≡ lineIndex (c .before .before .before .before .before .before .before .before .before .args .body .now)
+index-here : (c : tie.After-get22) → c .get22 .result ≡ lineIndex (c .before .before .before .before .before .before .before .before .args .body .now)
 unfolding lineIndex
 index-here c = c .get22 .ensures .is
-
-slice-aggregate-is-key : tie.Need-slice-aggregate-is-key
-slice-aggregate-is-key c = search needs
 
 part-requires : tie.Need-part-requires
 part-requires c κs = search needs
 
-is-key-requires : tie.Need-is-key-requires
-is-key-requires c κs = search needs
+is-slip-key-requires : tie.Need-is-slip-key-requires
+is-slip-key-requires c κs = search needs
 
 returns : tie.Need-returns
 unfolding slipKept
@@ -88,9 +85,8 @@ pub is-slip-kept-spec : {M : Type 1} → statement M
 is-slip-kept-spec =
     tie.close
     (tie.spec
-    slice-aggregate-is-key
     part-requires
-    is-key-requires
+    is-slip-key-requires
     returns
     get2-requires
     returns-2
