@@ -98,12 +98,19 @@ save b out =
     (written (notSaved TooSmall) out))
     (written (notSaved Unsound) out)
 
+-- how far before the end of a save its counts stand
+abbrev pub linesBack : ℕ
+linesBack = 4
+
+abbrev pub slipsBack : ℕ
+slipsBack = 2
+
 -- the counts that the end of a save states
 unfoldable pub statedLines : List ℕ → ℕ
-statedLines s = leAt s (length s - 4) 2
+statedLines s = leAt s (length s - linesBack) 2
 
 unfoldable pub statedSlips : List ℕ → ℕ
-statedSlips s = leAt s (length s - 2) 2
+statedSlips s = leAt s (length s - slipsBack) 2
 
 -- the body of the line with an index in a save, and of the slip with an index in a save of n lines
 unfoldable pub lineIn : List ℕ → ℕ → List ℕ
