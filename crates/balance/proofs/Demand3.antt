@@ -15,7 +15,8 @@ use Rattle.ledger.proofs.Demand3.{promise3}
 use Rattle.book.specs.Lent.{usedLines, usedSlips, sound}
 use Rattle.book.specs.Booking.{book}
 use Rattle.balance.specs.Told.{listed, told, roomsOf, fitOf}
-use Rattle.balance.specs.Demand3.{Given, fresh, give, giveAll, stateTold, Demand3}
+use Rattle.balance.specs.Demand3.{Given, fresh, give, giveAll}
+use Rattle.balance.specs.Joined.{stateTold, ToldDemand3}
 use Rattle.balance.proofs.Soundness.{Kept}
 use Rattle.balance.proofs.Accepted.{Refuses, Accepts, refused-or-accepted}
 use Rattle.balance.proofs.Followed.{follows}
@@ -81,9 +82,9 @@ fresh-told : (rooms : Rooms) (lines slips : List ℕ) → bookings rooms empty [
 unfolding bookings told usedLines usedSlips listed
 fresh-told rooms lines slips = refl
 
--- demand 3
-pub demand3 : Demand3
-demand3 lines slips records =
+-- demand 3 of the told book
+pub told-demand3 : ToldDemand3
+told-demand3 lines slips records =
     let g : Given = fresh lines slips in
     let rooms : Rooms = roomsOf (g .book) in
     split (sound (g .book))

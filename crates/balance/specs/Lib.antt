@@ -1,2 +1,5 @@
 pub mod Told
+pub mod Calls
+pub mod Accepted
 pub mod Demand3
+pub mod Joined

@@ -7,4 +7,5 @@ pub mod Gives
 pub mod Sums
 pub mod Lines
 pub mod Slips
+pub mod Orders
 pub mod Demand3

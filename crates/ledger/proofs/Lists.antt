@@ -1,10 +1,10 @@
 -- Laws of the walks over a list: what is kept, a sum, the first match and a change to it.
 use Prim.Native.Nat.{ℕ, _+_, _≤_}
 use native.Mathlib.Omega.{arith}
-use mathlib.Core.Path.{_≡_, refl}
+use mathlib.Core.Path.{_≡_, refl, ap}
 use mathlib.Core.Bool.{Bool, true, false}
 use mathlib.Core.Option.{Option, none, some}
-use mathlib.Core.List.{List, [], _∷_, _++_}
+use mathlib.Core.List.{List, [], _∷_, _++_, map}
 use lib.Dec.{leb}
 use lib.ListN.{length}
 use borrow.Author.Tests.{leb-false, lt-leb}
@@ -62,6 +62,22 @@ module _ {A : Type 0} where
   unfolding total
   total-same f g h [] = refl
   total-same f g h (a ∷ l) = omega (arith, h a, total-same f g h l)
+
+  -- figures that agree at each entry that passes have the same sum over what is kept
+  pub total-kept : (f g : A → ℕ) (p : A → Bool) → ((a : A) → p a ≡ true → f a ≡ g a) → (l : List A) → total f (keep p l) ≡ total g (keep p l)
+  unfolding total keep
+  total-kept f g p h [] = refl
+  total-kept f g p h (a ∷ l) =
+      let ih = total-kept f g p h l in
+      split (p a) (λ e. let k = h a e in rw e (omega arith)) (λ e. rw e ih)
+
+  -- two tests may be asked either way round
+  pub keep-swap : (p q : A → Bool) (l : List A) → keep p (keep q l) ≡ keep q (keep p l)
+  unfolding keep
+  keep-swap p q [] = refl
+  keep-swap p q (a ∷ l) =
+      let ih = keep-swap p q l in
+      split (p a) (λ e. split (q a) (λ f. cc) (λ f. cc)) (λ e. split (q a) (λ f. cc) (λ f. cc))
 
   -- a change of the first match moves a sum as it moves the entry's figure
   pub total-change : (g : A → ℕ) (q : A → Bool) (f : A → A) (n : ℕ) → ((a : A) → g (f a) ≡ g a + n) → (l : List A) → found (first q l) ≡ true
@@ -127,3 +143,9 @@ module _ {A : Type 0} where
   pub each-so : (P Q : A → Type 0) → ((a : A) → P a → Q a) → (l : List A) → Each P l → Each Q l
   each-so P Q s [] h = tt
   each-so P Q s (a ∷ l) h = (s a (h .0), each-so P Q s l (h .1))
+
+-- a figure of what a list is mapped to
+pub total-map : {A B : Type 0} (f : B → ℕ) (g : A → B) (l : List A) → total f (map g l) ≡ total (λ a. f (g a)) l
+unfolding total
+total-map f g [] = refl
+total-map f g (a ∷ l) = ap (λ (n : ℕ). f (g a) + n) (total-map f g l)

@@ -34,7 +34,7 @@ module _ (p : Key → Bool) where
   elsewhere k h j e = cc (same-true k j e)
 
   -- a key of the part has its line there
-  line-part : (k : Key) (ls : List Line) → p k ≡ true → lineAt k (linesOf p ls) ≡ lineAt k ls
+  pub line-part : (k : Key) (ls : List Line) → p k ≡ true → lineAt k (linesOf p ls) ≡ lineAt k ls
   unfolding lineAt linesOf
   line-part k ls h = first-keep _ _ (λ l. apart k h (l .key)) ls
 

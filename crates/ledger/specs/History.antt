@@ -1,6 +1,6 @@
 -- A sequence of bookings from an empty book, with the records accepted, and what the accepted records come to.
 use Prim.Native.Nat.{ℕ}
-use mathlib.Core.Bool.{Bool, false}
+use mathlib.Core.Bool.{Bool, true, false}
 use mathlib.Core.Option.{Option, none, some}
 use mathlib.Core.List.{List, [], _∷_, _++_}
 use Rattle.cells.specs.Bytes.{same}
@@ -42,6 +42,12 @@ part p b = record { lines = linesOf p (b .lines); slips = keep (λ t. p (t .line
 
 unfoldable pub recordsOf : (Key → Bool) → List Fit → List Fit
 recordsOf p rs = keep (λ r. p (keyOf r)) rs
+
+-- a record is an order
+unfoldable pub isOrder : Fit → Bool
+isOrder (order k o) = true
+isOrder (goods k g) = false
+isOrder (report k m) = false
 
 -- copies on an order, and on a slip
 unfoldable pub onOrder : Fit → ℕ

@@ -1,0 +1,15 @@
+-- The two calls that demand 3 speaks of, as their contracts fix them.
+use Prim.Native.Nat.{ℕ}
+use mathlib.Core.List.{List}
+use Rattle.book.specs.Lent.{Lent}
+use Rattle.book.specs.Booking.{Outcome, book}
+use Rattle.book.specs.Asked.{lineAsked}
+use Rattle.book.specs.declared.answer.Booked.{Booked}
+
+-- `booking::book`: a record given to a lent book; what it says, and the lent book afterwards
+abbrev pub bookCall : List ℕ → Lent → Outcome
+bookCall s b = book s b
+
+-- `asking::line`: the seven fields of a key asked of a lent book
+abbrev pub askCall : List (List ℕ) → Lent → Booked
+askCall fields b = lineAsked fields b

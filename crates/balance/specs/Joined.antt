@@ -1,0 +1,66 @@
+-- The figures that the calls answer are those of the book that the bytes tell; and the rule on lists refuses with the same numbers.
+use Prim.Native.Nat.{ℕ}
+use mathlib.Core.Path.{_≡_}
+use mathlib.Core.Bool.{true, false}
+use mathlib.Core.Option.{Option, none, some}
+use mathlib.Core.List.{List, map}
+use lib.ListN.{length}
+use Rattle.cells.specs.Bytes.{pick}
+use Rattle.record.specs.Layout.{kindOf}
+use Rattle.record.specs.Read.{judged}
+use Rattle.record.specs.declared.answer.Verdict.the-variants.{Fits as ReadFits}
+use Rattle.record.specs.declared.layout.Kind.{Kind}
+use Rattle.record.specs.declared.layout.Kinded.the-variants.{Known}
+use Rattle.entry.specs.declared.line.Figures.{Figures}
+use Rattle.ledger.specs.Book.{Line, ordered, filled, letGo, stillOpen, extra}
+use Rattle.ledger.specs.Booking.{Answer, done, refused, judge, lineAt}
+use Rattle.ledger.specs.History.{State}
+use Rattle.ledger.specs.Demand3.{Promise3}
+use Rattle.book.specs.Lent.{Lent, sound}
+use Rattle.book.specs.Booking.{nothingToBook, noCopies, noReference, refusedAs}
+use Rattle.book.specs.Asked.{keyWidths, areWide, keyOf}
+use Rattle.book.specs.declared.answer.Refused.the-variants.{Unsound, NoLine}
+use Rattle.book.specs.declared.answer.Booked.{Booked}
+use Rattle.balance.specs.Told.{told, roomsOf, fitOf}
+use Rattle.balance.specs.Calls.{bookCall, askCall}
+use Rattle.balance.specs.Demand3.{keyFieldsIn, Given, fresh, giveAll}
+
+-- the figures of a line of the told book, in the order in which the calls give them
+unfoldable pub figuresTold : Line → Figures
+figuresTold l = record { ordered = ordered l; filled = filled l; «still_open» = stillOpen l; «let_go» = letGo l; extra = extra l }
+
+-- what a call says of the line that is found, or that there is none
+unfoldable pub saysOf : Option Line → Booked
+saysOf none = refusedAs NoLine
+saysOf (some l) = record { answer = 0; place = 0; figures = figuresTold l }
+
+-- the call by key gives the figures of the first line with the key in the told book, and 16 exactly where there is none; a field of wrong length matches no line, and 20 stands before all
+abbrev pub AskedTells : Type 0
+AskedTells = (fields : List (List ℕ)) (b : Lent)
+    → askCall fields b
+    ≡ pick (sound b) (pick (areWide keyWidths fields) (saysOf (lineAt (keyOf fields) (told b .lines))) (refusedAs NoLine)) (refusedAs Unsound)
+
+-- where booking answers 0, the call by key with the record's own key says the same of the book afterwards; the used counts are two numbers, as their type has it
+abbrev pub BookedTells : Type 0
+BookedTells = (s : List ℕ) (b : Lent) → length (b .used) ≡ 2 → bookCall s b .said .answer ≡ 0
+    → askCall (keyFieldsIn s) (bookCall s b .lent) ≡ bookCall s b .said
+
+-- the answer number of the rule on lists
+unfoldable pub numberOf : Answer → ℕ
+numberOf done = 0
+numberOf (refused n) = n
+
+-- of a record that is read and has something to book, booking and the rule on lists give one number
+abbrev pub NumbersAgree : Type 0
+NumbersAgree = (s : List ℕ) (b : Lent) (n : ℕ) (k : Kind) → sound b ≡ true → judged s ≡ ReadFits n → kindOf s ≡ Known k
+    → nothingToBook k s ≡ false → noCopies k s ≡ false → noReference k s ≡ false
+    → bookCall s b .said .answer ≡ numberOf (judge (roomsOf b) (told b) (fitOf s))
+
+-- what the bytes tell: the book, and the accepted records as they were booked
+abbrev pub stateTold : Given → State
+stateTold g = record { book = told (g .book); accepted = map fitOf (g .accepted) }
+
+-- demand 3 of the told book, from which its sentences in the calls' words follow
+abbrev pub ToldDemand3 : Type 0
+ToldDemand3 = (lines slips : List ℕ) (records : List (List ℕ))
+    → Promise3 (roomsOf (fresh lines slips .book)) (stateTold (giveAll (fresh lines slips) records))
