@@ -59,12 +59,18 @@ module _ (b : Lent) (key : Key) where
   no-slip e =
       none-listed (λ t. same key (t .says .slip)) (slipIs (b .slips) key) (slipTold (b .lines) (b .slips)) slip-told (usedSlips b) 0 e
 
+  -- the slip at j is the first with the key
+  pub slip-found : (j : ℕ) → findSlip b key ≡ At j → slipWith key (told b .slips) ≡ some (slipTold (b .lines) (b .slips) j)
+  unfolding findSlip told slipWith
+  slip-found j e =
+      first-listed (λ t. same key (t .says .slip)) (slipIs (b .slips) key) (slipTold (b .lines) (b .slips)) slip-told (usedSlips b) 0 j e
+
 -- as many lines and slips are told as are used
-lines-told : (b : Lent) → length (told b .lines) ≡ usedLines b
+pub lines-told : (b : Lent) → length (told b .lines) ≡ usedLines b
 unfolding told
 lines-told b = listed-length (lineTold (b .lines)) (usedLines b) 0
 
-slips-told : (b : Lent) → length (told b .slips) ≡ usedSlips b
+pub slips-told : (b : Lent) → length (told b .slips) ≡ usedSlips b
 unfolding told
 slips-told b = listed-length (slipTold (b .lines) (b .slips)) (usedSlips b) 0
 

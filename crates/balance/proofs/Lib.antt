@@ -1,8 +1,10 @@
 pub mod Accepted
 pub mod Demand3
 pub mod Entered
+pub mod Exactly
 pub mod Followed
 pub mod Found
 pub mod Listings
+pub mod Numbers
 pub mod Promises
 pub mod Soundness
