@@ -17,7 +17,7 @@ use Rattle.record.specs.declared.layout.Kind.{Kind}
 use Rattle.record.specs.declared.layout.Kinded.{Kinded}
 use Rattle.record.specs.declared.layout.Kinded.the-variants.{Known, Unknown}
 use Rattle.book.specs.Lent.{Lent, sound}
-use Rattle.book.specs.Booking.{refusedNumber, refusedAs, doneAs, lentAfter, fitJudged, Outcome, outcome, enteredAs, settled, bookAs, bookKind, bookRead, book}
+use Rattle.book.specs.Booking.{refusedNumber, refusedAs, doneAs, lineAfter, lentAfter, fitJudged, Outcome, outcome, enteredAs, settled, bookAs, bookKind, bookRead, book}
 use Rattle.book.specs.declared.answer.Refused.{Refused}
 use Rattle.book.specs.declared.answer.Refused.the-variants.{Unsound, Unread, NothingToBook, NoCopies, NoReference, LineExists, LinesUsed, NoLine, SlipBooked, SlipDiffers, SlipsUsed, TooManyArrived}
 use Rattle.book.specs.declared.answer.Verdict.{Verdict}
@@ -67,6 +67,7 @@ pub record Accepts (s : List ℕ) (b : Lent) : Type 0 where
   pub known : kindOf s ≡ Known kind
   pub place : ℕ
   pub fits : fitJudged kind s b ≡ Fits place
+  pub said : book s b .said ≡ doneAs (lineAfter kind s b place)
   pub answer : book s b .said .answer ≡ 0
   pub lent : book s b .lent ≡ lentAfter kind s b place
 
@@ -84,7 +85,7 @@ refused-or-accepted s b = split (sound b) (λ h. at-reading h (judged s) refl) (
         → Refuses (book s b) b ⊎ Accepts s b
     at-verdict h n r k g (Refuse x) f = inl (rw (h, r, g, f) (refuses x b))
     at-verdict h n r k g (Fits i) f =
-        inr (record { is-sound = h; fields = n; read = r; kind = k; known = g; place = i; fits = f; answer = rw (h, r, g, f); lent = rw (h, r, g, f) })
+        inr (record { is-sound = h; fields = n; read = r; kind = k; known = g; place = i; fits = f; said = rw (h, r, g, f); answer = rw (h, r, g, f); lent = rw (h, r, g, f) })
 
     at-kind : sound b ≡ true → (n : ℕ) → judged s ≡ ReadFits n → (k : Kinded) → kindOf s ≡ k → Refuses (book s b) b ⊎ Accepts s b
     at-kind h n r Unknown g = inl (rw (h, r, g) (refuses NothingToBook b))

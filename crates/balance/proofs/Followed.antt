@@ -50,7 +50,7 @@ let-pass true v r i e = (refl, e)
 let-pass false v r i e = let z : _≡_ {A = ℕ} 0 1 = cc in absurd (omega arith)
 
 -- a record fit to book has copies, and fits the book
-fit-passed : (k : Kind) (s : List ℕ) (b : Lent) (i : ℕ) → fitJudged k s b ≡ Fits i → (noCopies k s ≡ false) × (bookJudged k s b ≡ Fits i)
+pub fit-passed : (k : Kind) (s : List ℕ) (b : Lent) (i : ℕ) → fitJudged k s b ≡ Fits i → (noCopies k s ≡ false) × (bookJudged k s b ≡ Fits i)
 unfolding fitJudged
 fit-passed k s b i e =
     let one = passed (nothingToBook k s) _ _ i e in
@@ -150,11 +150,11 @@ module _ (b : Lent) (k : Kept b) (i : ℕ) (used : i < usedLines b) where
 
 -- the changed line is told as the told line changed
 module _ (lines : List ℕ) (i : ℕ) where
-  line-arrives : (copies : ℕ) → lineOf (keyAt lines i) (withArrivals copies (lineAt lines i)) ≡ arrive copies (lineTold lines i)
+  pub line-arrives : (copies : ℕ) → lineOf (keyAt lines i) (withArrivals copies (lineAt lines i)) ≡ arrive copies (lineTold lines i)
   unfolding lineOf withArrivals arrive lineTold
   line-arrives copies = refl
 
-  line-reported : (m : Mark) (h : Hold) → reportOf m ≡ some (record { hold = h })
+  pub line-reported : (m : Mark) (h : Hold) → reportOf m ≡ some (record { hold = h })
       → lineOf (keyAt lines i) (withMark m (lineAt lines i)) ≡ tell (record { hold = h }) (lineTold lines i)
   unfolding lineOf withMark tell lineTold
   line-reported m h e = rw e
@@ -204,7 +204,7 @@ module _ (b : Lent) (key : Key) (m : Mark) (h : Hold) (i : ℕ) (k : Kept b) whe
       }
 
 -- a report's mark is J or N
-report-mark : (s : List ℕ) → reportOf (markIn s) ≡ some (record { hold = holdOf (markIn s) })
+pub report-mark : (s : List ℕ) → reportOf (markIn s) ≡ some (record { hold = holdOf (markIn s) })
 unfolding markIn reportOf holdOf
 report-mark s = split (same (fieldBytes Report 10 s) (bytes "J")) (λ e. rw e) (λ e. rw e)
 

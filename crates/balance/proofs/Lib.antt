@@ -1,9 +1,13 @@
 pub mod Accepted
+pub mod Bookable
 pub mod Demand3
 pub mod Entered
 pub mod Exactly
+pub mod Figures
 pub mod Followed
 pub mod Found
+pub mod Keys
+pub mod Lines
 pub mod Listings
 pub mod Numbers
 pub mod Promises

@@ -1,5 +1,6 @@
 pub mod Computed
 pub mod Lists
+pub mod Members
 pub mod Tests
 pub mod Parts
 pub mod Histories

@@ -1,0 +1,117 @@
+-- What is known of every accepted record: it is read, of a kind that is booked, with copies and a reference; so its key fields have their lengths, and it is booked as its bytes say.
+use mathlib.Core.Path.{_≡_, _∙_, sym, refl}
+use mathlib.Core.Bool.{Bool, true, false, _&&_}
+use mathlib.Core.List.{List, [], _∷_}
+use Prim.Native.Nat.{ℕ, _≤_}
+use native.Mathlib.Omega.{arith}
+use lib.ListN.{length, take}
+use Rattle.cells.specs.Bytes.{pick, same, all}
+use Rattle.cells.proofs.Bools.{and-false}
+use Rattle.record.specs.Layout.{layout, fixedWidth, kindOf}
+use Rattle.record.specs.Read.{judged}
+use Rattle.record.specs.declared.answer.Verdict.the-variants.{Fits as ReadFits}
+use Rattle.record.specs.declared.layout.Kind.{Kind}
+use Rattle.record.specs.declared.layout.Kind.the-variants.{Order, Goods, Closing, Report}
+use Rattle.record.specs.declared.layout.Kinded.the-variants.{Known}
+use Rattle.reader.proofs.Fitting.{Fitting, fitting}
+use Rattle.ledger.specs.Book.{schoolOf, ofSchool as schoolIs}
+use Rattle.ledger.specs.History.{keyOf as keyIn, isOrder as isOrdering, onOrder, onSlip, hasSlip}
+use Rattle.book.specs.Lent.{Lent}
+use Rattle.book.specs.Booking.{keyFields, slipFields, lineKey, slipKey, copiesIn, nothingToBook, noCopies, noReference, fitJudged}
+use Rattle.book.specs.Asked.{keyWidths, areWide, keyOf}
+use Rattle.balance.specs.Told.{fitAs, fitKind, fitOf}
+use Rattle.balance.specs.Demand3.{isOrder, isDelivery, isReport, copiesOn, fieldsIn, keyFieldsIn, slipFieldsIn, sameFields, ofSchool}
+use Rattle.balance.proofs.Accepted.{Accepts}
+use Rattle.balance.proofs.Followed.{passed}
+use Rattle.balance.proofs.Keys.{same-fields, front-two, fields-wide, fields-joined}
+
+pub record Bookable (s : List ℕ) : Type 0 where
+  pub fields : ℕ
+  pub read : judged s ≡ ReadFits fields
+  pub kind : Kind
+  pub known : kindOf s ≡ Known kind
+  pub something : nothingToBook kind s ≡ false
+  pub copies : noCopies kind s ≡ false
+  pub referenced : noReference kind s ≡ false
+
+-- an accepted record is
+pub bookable : (s : List ℕ) (b : Lent) → Accepts s b → Bookable s
+unfolding fitJudged
+bookable s b a =
+    let k : Kind = a .kind in
+    let one = passed (nothingToBook k s) _ _ (a .place) (a .fits) in
+    let two = passed (noCopies k s) _ _ (a .place) (one .1) in
+    let three = passed (noReference k s) _ _ (a .place) (two .1) in
+    record { fields = a .fields; read = a .read; kind = k; known = a .known; something = one .0; copies = two .0; referenced = three .0 }
+
+-- the seven fields of a record's key have their lengths, and make the key of its line
+pub record Keyed (s : List ℕ) : Type 0 where
+  pub wide : areWide keyWidths (keyFieldsIn s) ≡ true
+  pub key-is : keyOf (keyFieldsIn s) ≡ keyIn (fitOf s)
+
+-- of a record of a kind that is long enough
+kind-keyed : (s : List ℕ) (k : Kind) → fixedWidth k ≤ length s → nothingToBook k s ≡ false → kindOf s ≡ Known k → Keyed s
+unfolding keyFieldsIn keyFields fitOf fitKind fitAs keyIn lineKey layout all nothingToBook
+kind-keyed s Order h n e =
+    record { wide = rw e (fields-wide Order s h (keyFields Order) refl); key-is = rw e (fields-joined Order s (keyFields Order)) }
+kind-keyed s Goods h n e =
+    record { wide = rw e (fields-wide Goods s h (keyFields Goods) refl); key-is = rw e (fields-joined Goods s (keyFields Goods)) }
+kind-keyed s Closing h n e = absurd (let z : _≡_ {A = ℕ} 0 1 = cc in omega arith)
+kind-keyed s Report h n e =
+    record { wide = rw e (fields-wide Report s h (keyFields Report) refl); key-is = rw e (fields-joined Report s (keyFields Report)) }
+
+pub keyed : (s : List ℕ) → Bookable s → Keyed s
+keyed s b =
+    let f = fitting (b .kind) s (b .fields) (b .known) (b .read) in
+    kind-keyed s (b .kind) (omega (arith, f .wide)) (b .something) (b .known)
+
+-- the lengths of a school's fields, and of a slip key's
+abbrev pub schoolWidths : List ℕ
+schoolWidths = 10 ∷ 2 ∷ []
+
+abbrev pub slipWidths : List ℕ
+slipWidths = 10 ∷ 2 ∷ 10 ∷ 2 ∷ 8 ∷ 10 ∷ 4 ∷ []
+
+-- the test for a school's fields, on the key of a line
+abbrev pub schoolTest : List (List ℕ) → List ℕ → Bool
+schoolTest school k = areWide schoolWidths school && schoolIs (keyOf school) k
+
+-- a record has a school's fields, or a key's, exactly where it is booked with them
+module _ (s : List ℕ) (b : Bookable s) where
+  pub school-in : (school : List (List ℕ)) → ofSchool school (keyFieldsIn s) ≡ schoolTest school (keyIn (fitOf s))
+  unfolding ofSchool schoolIs schoolOf
+  school-in school =
+      let t = keyed s b in
+      let two = front-two 10 2 (10 ∷ 2 ∷ 10 ∷ 13 ∷ 2 ∷ []) (keyFieldsIn s) (t .wide) in
+      rw (same-fields schoolWidths school (take 2 (keyFieldsIn s)) (two .0), two .1, t .key-is) refl
+
+  pub key-in : (fields : List (List ℕ)) → sameFields fields (keyFieldsIn s) ≡ areWide keyWidths fields && same (keyOf fields) (keyIn (fitOf s))
+  key-in fields =
+      let t = keyed s b in
+      rw (same-fields keyWidths fields (keyFieldsIn s) (t .wide), t .key-is) refl
+
+-- what a record is booked as, by its kind
+pub record BookedAs (s : List ℕ) : Type 0 where
+  pub ordering : isOrdering (fitOf s) ≡ isOrder s
+  pub on-order : onOrder (fitOf s) ≡ pick (isOrder s) (copiesOn s) 0
+  pub on-slip : onSlip (fitOf s) ≡ pick (isDelivery s) (copiesOn s) 0
+  pub slip-in : (slip : List (List ℕ)) → isDelivery s && sameFields slip (slipFieldsIn s) ≡ areWide slipWidths slip && hasSlip (keyOf slip) (fitOf s)
+
+-- a delivery has a slip key's fields exactly where it is booked with that key
+goods-slip : (s : List ℕ) → fixedWidth Goods ≤ length s → (slip : List (List ℕ))
+    → sameFields slip (slipFieldsIn s) ≡ areWide slipWidths slip && same (keyOf slip) (slipKey s)
+unfolding slipFieldsIn slipKey layout all
+goods-slip s h slip = rw (same-fields slipWidths slip (fieldsIn Goods slipFields s) (fields-wide Goods s h slipFields refl), fields-joined Goods s slipFields) refl
+
+kind-booked : (s : List ℕ) (k : Kind) → fixedWidth k ≤ length s → nothingToBook k s ≡ false → kindOf s ≡ Known k → BookedAs s
+unfolding fitOf fitKind fitAs isOrdering onOrder onSlip hasSlip isOrder isDelivery copiesOn nothingToBook
+kind-booked s Order h n e = record { ordering = rw e refl; on-order = rw e refl; on-slip = rw e refl; slip-in = λ slip. rw (e, and-false (areWide slipWidths slip)) refl }
+kind-booked s Goods h n e =
+    record { ordering = rw e refl; on-order = rw e refl; on-slip = rw e refl; slip-in = λ slip. rw e (goods-slip s h slip) }
+kind-booked s Closing h n e = absurd (let z : _≡_ {A = ℕ} 0 1 = cc in omega arith)
+kind-booked s Report h n e = record { ordering = rw e refl; on-order = rw e refl; on-slip = rw e refl; slip-in = λ slip. rw (e, and-false (areWide slipWidths slip)) refl }
+
+pub booked-as : (s : List ℕ) → Bookable s → BookedAs s
+booked-as s b =
+    let f = fitting (b .kind) s (b .fields) (b .known) (b .read) in
+    kind-booked s (b .kind) (omega (arith, f .wide)) (b .something) (b .known)

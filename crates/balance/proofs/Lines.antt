@@ -1,0 +1,113 @@
+-- What the call by key answers follows from the key's own accepted records.
+use mathlib.Core.Path.{_≡_, _∙_, ap, ap₂, sym, refl}
+use mathlib.Core.Bool.{Bool, true, false, _&&_}
+use mathlib.Core.Option.{Option, none, some}
+use mathlib.Core.List.{List, [], _∷_, _++_, map}
+use Prim.Native.Nat.{ℕ}
+use native.Mathlib.Omega.{arith}
+use Rattle.cells.specs.Bytes.{pick, same}
+use Rattle.cells.proofs.Bools.{split}
+use Rattle.record.specs.Layout.{kindOf}
+use Rattle.record.specs.declared.layout.Kind.{Kind}
+use Rattle.record.specs.declared.layout.Kind.the-variants.{Order, Goods, Closing, Report}
+use Rattle.record.specs.declared.layout.Kinded.the-variants.{Known}
+use Rattle.entry.specs.declared.line.Mark.{Mark}
+use Rattle.entry.specs.declared.line.Mark.the-variants.{Unmarked}
+use Rattle.entry.specs.declared.line.Line.{Line as Stored}
+use Rattle.ledger.specs.Lists.{keep, total}
+use Rattle.ledger.specs.Book.{Key, Report as Telling, Line, Rooms}
+use Rattle.ledger.specs.Booking.{Fit, lineAt as lineWith}
+use Rattle.ledger.specs.History.{empty, bookings, keyOf as keyIn, linesOf, recordsOf as fitsOf, onSlip, lastReport, lineFrom as lineGiven}
+use Rattle.ledger.proofs.Lists.{Each, total-map}
+use Rattle.ledger.proofs.Members.{total-keep, foremost, first-foremost, each-kept, keep-each, total-each, keep-mapped, keep-nothing}
+use Rattle.ledger.proofs.Gives.{Gives}
+use Rattle.ledger.proofs.Lines.{every-line}
+use Rattle.book.specs.Lent.{Lent}
+use Rattle.book.specs.Booking.{copiesIn, markIn, nothingToBook, refusedAs, doneAs}
+use Rattle.book.specs.Asked.{keyWidths, areWide, keyOf, lineAsked}
+use Rattle.book.specs.declared.answer.Refused.the-variants.{NoLine}
+use Rattle.balance.specs.Told.{reportOf, told, holdOf, fitAs, fitKind, fitOf}
+use Rattle.balance.specs.Demand3.{isOrder, isDelivery, isReport, copiesOn, keyFieldsIn, sameFields, recordsWith, lastMark, lineFrom, Given}
+use Rattle.balance.specs.Joined.{saysOf}
+use Rattle.balance.proofs.Soundness.{Kept}
+use Rattle.balance.proofs.Entered.{lineOf}
+use Rattle.balance.proofs.Followed.{report-mark}
+use Rattle.balance.proofs.Bookable.{Bookable, BookedAs, booked-as, key-in}
+use Rattle.balance.proofs.Figures.{done-told, asked-tells}
+
+-- the copies on some records that are booked as deliveries
+pub slips-total : (ss : List (List ℕ)) → Each Bookable ss → total onSlip (map fitOf ss) ≡ total copiesOn (keep isDelivery ss)
+slips-total ss h =
+    total-map onSlip fitOf ss
+    ∙ total-each Bookable (λ s. onSlip (fitOf s)) (λ s. pick (isDelivery s) (copiesOn s) 0) (λ s b. booked-as s b .on-slip) ss h
+    ∙ sym (total-keep copiesOn isDelivery ss)
+
+-- the last report among some records
+last-report : (ss : List (List ℕ)) → Each Bookable ss → (m : Mark) → lastReport (reportOf m) (map fitOf ss) ≡ reportOf (lastMark m (keep isReport ss))
+unfolding lastReport lastMark keep fitOf fitKind fitAs isReport nothingToBook
+last-report [] h m = refl
+last-report (s ∷ ss) h m = go (h .0 .kind) (h .0 .known) (h .0 .something) (λ n. last-report ss (h .1) n)
+  where
+    go : (k : Kind) → kindOf s ≡ Known k → nothingToBook k s ≡ false
+        → ((n : Mark) → lastReport (reportOf n) (map fitOf ss) ≡ reportOf (lastMark n (keep isReport ss)))
+        → lastReport (reportOf m) (fitOf s ∷ map fitOf ss) ≡ reportOf (lastMark m (pick (isReport s) (s ∷ keep isReport ss) (keep isReport ss)))
+    go Order e n rest = rw e (rest m)
+    go Goods e n rest = rw e (rest m)
+    go Closing e n rest = absurd (let z : _≡_ {A = ℕ} 0 1 = cc in omega arith)
+    go Report e n rest = rw e (ap (λ (r : Option Telling). lastReport r (map fitOf ss)) (sym (report-mark s)) ∙ rest (markIn s))
+
+-- the line that an order begins, with the records after it
+abbrev begun : Key → List ℕ → List (List ℕ) → Line
+begun key s ss =
+    lineOf key (record { ordered = copiesOn s; arrived = total copiesOn (keep isDelivery ss); mark = lastMark Unmarked (keep isReport ss) })
+
+-- it is the line that the order begins on lists
+order-begins : (key : Key) (s : List ℕ) (ss : List (List ℕ)) → Each Bookable ss
+    → record { key = key; asked = record { copies = copiesOn s }; arrived = total onSlip (map fitOf ss); last = lastReport none (map fitOf ss) } ≡ begun key s ss
+unfolding lineOf
+order-begins key s ss h =
+    let last : lastReport none (map fitOf ss) ≡ reportOf (lastMark Unmarked (keep isReport ss)) = unfold reportOf in last-report ss h Unmarked in
+    rw (slips-total ss h, last) refl
+
+-- a key's own records make the line that the call by key tells
+own-line : (key : Key) (ss : List (List ℕ)) → Each Bookable ss → saysOf (foremost (lineGiven key (map fitOf ss))) ≡ lineFrom ss
+unfolding lineGiven lineFrom fitOf fitKind fitAs isOrder nothingToBook
+own-line key [] h = unfold saysOf in refl
+own-line key (s ∷ ss) h = go (h .0 .kind) (h .0 .known) (h .0 .something) (own-line key ss (h .1))
+  where
+    go : (k : Kind) → kindOf s ≡ Known k → nothingToBook k s ≡ false → saysOf (foremost (lineGiven key (map fitOf ss))) ≡ lineFrom ss
+        → saysOf (foremost (lineGiven key (fitOf s ∷ map fitOf ss))) ≡ lineFrom (s ∷ ss)
+    go Order e n rest =
+        let c : copiesOn s ≡ copiesIn Order s = unfold copiesOn in rw e refl in
+        rw (e, ← c) (ap (λ (l : Line). saysOf (some l)) (order-begins key s ss (h .1)) ∙ sym (done-told key _))
+    go Goods e n rest = rw e rest
+    go Closing e n rest = absurd (let z : _≡_ {A = ℕ} 0 1 = cc in omega arith)
+    go Report e n rest = rw e rest
+
+-- of a sound lent book whose told book these accepted records give
+module _ (rooms : Rooms) (g : Given) (kept : Kept (g .book)) (gives : Gives rooms (map fitOf (g .accepted)) (told (g .book))) (all : Each Bookable (g .accepted)) where
+  abbrev fits : List Fit
+  fits = map fitOf (g .accepted)
+
+  -- the first line with a key is what the key's own records make
+  line-given : (key : Key) → lineWith key (told (g .book) .lines) ≡ foremost (lineGiven key (fitsOf (same key) fits))
+  unfolding lineWith linesOf
+  line-given key =
+      first-foremost (λ (l : Line). same key (l .key)) (told (g .book) .lines)
+      ∙ ap (foremost {A = Line}) (rw gives at (every-line rooms fits key))
+
+  -- each key's answer follows from its own accepted records
+  pub answers : (fields : List (List ℕ)) → lineAsked fields (g .book) ≡ lineFrom (recordsWith fields (g .accepted))
+  unfolding recordsWith fitsOf
+  answers fields =
+      let with : List ℕ → Bool = λ s. sameFields fields (keyFieldsIn s) in
+      asked-tells fields (g .book)
+      ∙ rw (kept .is-sound)
+      (split (areWide keyWidths fields)
+      (λ w.
+      let mine = keep-mapped Bookable fitOf (λ (r : Fit). same (keyOf fields) (keyIn r)) with (λ s b. sym (rw w at (key-in s b fields))) (g .accepted) all in
+      rw w (ap saysOf (line-given (keyOf fields) ∙ ap (λ (rs : List Fit). foremost (lineGiven (keyOf fields) rs)) mine)
+      ∙ own-line (keyOf fields) (keep with (g .accepted)) (each-kept Bookable with (g .accepted) all)))
+      (λ w.
+      let none-mine = keep-each Bookable with (λ s. false) (λ s b. rw w at (key-in s b fields)) (g .accepted) all ∙ keep-nothing (g .accepted) in
+      rw (w, none-mine) (unfold lineFrom in refl)))
