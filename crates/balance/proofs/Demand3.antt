@@ -28,12 +28,12 @@ pub record Booked (rooms : Rooms) (earlier : List Fit) (g : Given) : Type 0 wher
   pub tells : Gives rooms (earlier ++ map fitOf (g .accepted)) (told (g .book))
 
 -- a record that is refused changes nothing
-give-refused : (g : Given) (s : List ℕ) → Refuses (book s (g .book)) (g .book) → give g s ≡ g
+pub give-refused : (g : Given) (s : List ℕ) → Refuses (book s (g .book)) (g .book) → give g s ≡ g
 unfolding give
 give-refused g s r = rw (ne-eqb (book s (g .book) .said .answer) 0 (r .answer), r .lent)
 
 -- a record that answers 0 is one more accepted
-give-accepted : (g : Given) (s : List ℕ) → Accepts s (g .book) → give g s ≡ record { book = book s (g .book) .lent; accepted = g .accepted ++ (s ∷ []) }
+pub give-accepted : (g : Given) (s : List ℕ) → Accepts s (g .book) → give g s ≡ record { book = book s (g .book) .lent; accepted = g .accepted ++ (s ∷ []) }
 unfolding give
 give-accepted g s a = rw (eq-eqb (book s (g .book) .said .answer) 0 (a .answer))
 
@@ -68,7 +68,7 @@ module _ (rooms : Rooms) (earlier : List Fit) where
   all-given (r ∷ rs) g h = all-given rs (give g r) (one-given g r h)
 
 -- into an unsound book nothing is booked
-unsound-given : (rs : List (List ℕ)) (g : Given) → sound (g .book) ≡ false → giveAll g rs ≡ g
+pub unsound-given : (rs : List (List ℕ)) (g : Given) → sound (g .book) ≡ false → giveAll g rs ≡ g
 unfolding giveAll
 unsound-given [] g e = refl
 unsound-given (r ∷ rs) g e = ap (λ (h : Given). giveAll h rs) (go (refused-or-accepted r (g .book))) ∙ unsound-given rs g e
@@ -78,7 +78,7 @@ unsound-given (r ∷ rs) g e = ap (λ (h : Given). giveAll h rs) (go (refused-or
     go (inr a) = absurd (false≢true (sym e ∙ a .is-sound))
 
 -- a book with no used entries tells what no records come to
-fresh-told : (rooms : Rooms) (lines slips : List ℕ) → bookings rooms empty [] ≡ stateTold (fresh lines slips)
+pub fresh-told : (rooms : Rooms) (lines slips : List ℕ) → bookings rooms empty [] ≡ stateTold (fresh lines slips)
 unfolding bookings told usedLines usedSlips listed
 fresh-told rooms lines slips = refl
 

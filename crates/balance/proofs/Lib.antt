@@ -1,3 +1,4 @@
+pub mod Accounts
 pub mod Accepted
 pub mod Bookable
 pub mod Demand3
