@@ -99,7 +99,7 @@ module _ (rooms : Rooms) (g : Given) (kept : Kept (g .book)) (gives : Gives room
       let lines : List Line = told (g .book) .lines in
       let booked = ap ordersIn (own-booked school) ∙ keep-mapped Bookable fitOf isOrdering isOrder (λ s b. booked-as s b .ordering) own (own-bookable school) in
       let by-orders : total f (linesOf (schoolTest school) lines) ≡ total (λ r. figureAt f lines (keyIn r)) (ordersIn (fitsOf (schoolTest school) fits)) =
-          rw gives at (lines-by-orders (schoolTest school) rooms fits f) in
+      rw gives at (lines-by-orders (schoolTest school) rooms fits f) in
       by-orders
       ∙ ap (total (λ (r : Fit). figureAt f lines (keyIn r))) booked
       ∙ total-map (λ (r : Fit). figureAt f lines (keyIn r)) fitOf (keep isOrder own)
@@ -124,7 +124,7 @@ module _ (rooms : Rooms) (g : Given) (kept : Kept (g .book)) (gives : Gives room
   orders-summed school =
       let three : Line → ℕ = λ l. filled l + letGo l + stillOpen l in
       let sums : total onOrder (fitsOf (schoolTest school) fits) ≡ total three (linesOf (schoolTest school) (told (g .book) .lines)) =
-          rw gives at (order-sum (schoolTest school) rooms fits) in
+      rw gives at (order-sum (schoolTest school) rooms fits) in
       orders-total school ∙ sums ∙ summed school three accounted refl (λ l. refl)
 
   pub deliveries-summed : (school : List (List ℕ))
@@ -133,7 +133,7 @@ module _ (rooms : Rooms) (g : Given) (kept : Kept (g .book)) (gives : Gives room
   deliveries-summed school =
       let two : Line → ℕ = λ l. filled l + extra l in
       let sums : total onSlip (fitsOf (schoolTest school) fits) ≡ total two (linesOf (schoolTest school) (told (g .book) .lines)) =
-          rw gives at (slip-sum (schoolTest school) rooms fits) in
+      rw gives at (slip-sum (schoolTest school) rooms fits) in
       deliveries-total school ∙ sums ∙ summed school two came refl (λ l. refl)
 
   -- each slip once
@@ -155,7 +155,7 @@ module _ (rooms : Rooms) (g : Given) (kept : Kept (g .book)) (gives : Gives room
       → bookings rooms empty (map fitOf (recordsOf school (g .accepted))) .accepted ≡ map fitOf (recordsOf school (g .accepted))
   alone-booked school =
       let e : bookings rooms empty (fitsOf (schoolTest school) fits) ≡ record { book = part (schoolTest school) (told (g .book)); accepted = fitsOf (schoolTest school) fits } =
-          rw gives at (alone (schoolTest school) rooms fits) in
+      rw gives at (alone (schoolTest school) rooms fits) in
       ap (λ (st : State). st .accepted) (rw (own-booked school) at e)
 
 -- the given state after a record that was accepted

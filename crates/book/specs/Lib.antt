@@ -2,3 +2,4 @@ pub mod Lent
 pub mod Booking
 pub mod Asked
 pub mod Cases
+pub mod Pairs

@@ -20,6 +20,7 @@ use Rattle.book.specs.Lent.{usedLines, usedSlips, lineRoom, slipRoom, roomSound
 use Rattle.book.specs.Booking.{refusedNumber, refusedPlace, fieldsAt, keyFields, lineKey, slipKey, copiesIn, nothingToBook, noCopies, noReference, markIn, orderJudged, slipJudged, arrivalJudged, goodsJudged, deliveryJudged, reportJudged, bookJudged, fitJudged, newLine, lineAfter, lentAfter, refusedAs, doneAs, enteredAs, settled, bookAs, bookKind, bookRead, book}
 use Rattle.book.specs.Asked.{areWide, keyOf, figuresAt, figuresOfKey, lineAsked}
 use Rattle.book.specs.Cases.{roomy, desk, sample, sampleSays, others, othersSay, says, unsound, answersTo, unsoundSays, asked, askedSay}
+use Rattle.book.specs.Pairs.{trials, firstWrong as trialWrong}
 
 -- the line that X adds, asked for by its key
 calls-by-key : asked (book X (roomy 1 1) .lent) ≡ askedSay
@@ -34,7 +35,9 @@ pub record Computed : Type 0 where
   pub desk-others : desk (roomy 3 5) others ≡ othersSay
   pub broken : answersTo Z unsound ≡ unsoundSays
   pub keyed : asked (book X (roomy 1 1) .lent) ≡ askedSay
+  -- the order of the answers, pair by pair
+  pub ordered : trialWrong 1 trials ≡ 0
 
 pub computed : Computed
-unfolding all any run same among leAt leBytes belongs allOf ofClass padded named numberFrom leap monthDays realDay dayOf isDay checkValue weighted gs1 isbn seriesVolume article texts dayCount expected keeps layout total fixedWidth startOf kindOf firstBroken contents isIn ruleIn contentRule guardedIds guarded contentKept groups firstOf nextIn previousIn groupWith nextMember previousMember isWanted groupKept refusalNumber refusalPlace checkedOf _then_ headOf idIn idOf contentWidth contentOf fieldWidth afterField onHead atField walk judge fieldBytes bytesJudged fixedJudged afterWalk optionalJudged kindJudged judged cases firstWrong markByte withMark withArrivals openOf letGoOf filledOf figuresOf lineAt lineBytes putLine addLine keyAt keyIs lineSound slipKeyAt slipIs slipLineAt slipCopiesAt addSlip slipSound usedLines usedSlips lineRoom slipRoom roomSound firstFrom allFrom sound findLine findSlip refusedNumber refusedPlace fieldsAt keyFields lineKey slipKey copiesIn nothingToBook noCopies noReference markIn orderJudged slipJudged arrivalJudged goodsJudged deliveryJudged reportJudged bookJudged fitJudged newLine lineAfter lentAfter refusedAs doneAs enteredAs settled bookAs bookKind bookRead book desk sample sampleSays others othersSay unsound answersTo unsoundSays
-computed = record { samples = refl; desk-sample = refl; desk-others = refl; broken = refl; keyed = calls-by-key }
+unfolding all any run same among leAt leBytes belongs allOf ofClass padded named numberFrom leap monthDays realDay dayOf isDay checkValue weighted gs1 isbn seriesVolume article texts dayCount expected keeps layout total fixedWidth startOf kindOf firstBroken contents isIn ruleIn contentRule guardedIds guarded contentKept groups firstOf nextIn previousIn groupWith nextMember previousMember isWanted groupKept refusalNumber refusalPlace checkedOf _then_ headOf idIn idOf contentWidth contentOf fieldWidth afterField onHead atField walk judge fieldBytes bytesJudged fixedJudged afterWalk optionalJudged kindJudged judged cases firstWrong markByte withMark withArrivals openOf letGoOf filledOf figuresOf lineAt lineBytes putLine addLine keyAt keyIs lineSound slipKeyAt slipIs slipLineAt slipCopiesAt addSlip slipSound usedLines usedSlips lineRoom slipRoom roomSound firstFrom allFrom sound findLine findSlip refusedNumber refusedPlace fieldsAt keyFields lineKey slipKey copiesIn nothingToBook noCopies noReference markIn orderJudged slipJudged arrivalJudged goodsJudged deliveryJudged reportJudged bookJudged fitJudged newLine lineAfter lentAfter refusedAs doneAs enteredAs settled bookAs bookKind bookRead book desk sample sampleSays others othersSay unsound answersTo unsoundSays trials trialWrong
+computed = record { samples = refl; desk-sample = refl; desk-others = refl; broken = refl; keyed = calls-by-key; ordered = refl }
