@@ -5,10 +5,9 @@ use mathlib.Core.List.{List, [], _∷_, _++_}
 use lib.ListN.{replicate, take, drop, set}
 use lib.Seq.{slice, sets}
 use Rattle.cells.specs.Bytes.{bytes}
-use Rattle.record.specs.Answers.{checkedOf}
-use Rattle.record.specs.Read.{judged}
+use Rattle.record.specs.Read.{check}
 use Rattle.record.specs.Samples.{X, Y, Z, put, Call, reads, books}
-use Rattle.record.specs.Edges.{C}
+use Rattle.record.specs.Edges.{C, fullTable}
 use Rattle.record.specs.declared.answer.Checked.{Checked}
 use Rattle.entry.specs.Stored.{lineWidth, slipWidth, keyWidth, markAt, arrivedAt, slipKeyWidth}
 use Rattle.entry.specs.declared.line.Figures.{Figures}
@@ -94,9 +93,9 @@ othersSay =
     ∷ (13 ∷ 0 ∷ 0 ∷ 0 ∷ 0 ∷ 0 ∷ [])
     ∷ []
 
--- what a call says of a record of the table of cases marked P
+-- what the calls say of a record of the table of cases marked P
 abbrev pub says : Call → List ℕ → Checked
-says reads s = checkedOf (judged s)
+says reads s = check s fullTable .said
 says books s = record { answer = book s (roomy 1 1) .said .answer; place = book s (roomy 1 1) .said .place; fields = 0 }
 
 -- the book after X and Y, and books with one thing broken

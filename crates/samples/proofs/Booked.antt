@@ -10,10 +10,11 @@ use Rattle.rules.specs.Rule.{texts, dayCount, expected, keeps}
 use Rattle.record.specs.Layout.{layout, total, fixedWidth, startOf, kindOf, firstBroken}
 use Rattle.record.specs.Contents.{contents, isIn, ruleIn, contentRule, guardedIds, guarded, contentKept, groups, firstOf, nextIn, previousIn, groupWith, nextMember, previousMember, isWanted, groupKept}
 use Rattle.record.specs.Answers.{refusalNumber, refusalPlace, checkedOf, _then_}
-use Rattle.record.specs.Fields.{headOf, idIn, idOf, contentWidth, contentOf, fieldWidth, afterField, onHead, atField, walk, judge}
+use Rattle.record.specs.Fields.{headOf, idIn, idOf, contentWidth, contentOf, fieldWidth, afterField, onHead, atField, walk, judge, entriesOf}
 use Rattle.record.specs.Values.{fieldBytes}
-use Rattle.record.specs.Read.{bytesJudged, fixedJudged, afterWalk, optionalJudged, kindJudged, judged}
+use Rattle.record.specs.Read.{bytesJudged, fixedJudged, afterWalk, optionalJudged, kindJudged, judged, optionalStart, tableAfter, check}
 use Rattle.record.specs.Samples.{X, Z, cases, firstWrong}
+use Rattle.record.specs.Edges.{fullTable}
 use Rattle.entry.specs.Line.{markByte, withMark, withArrivals, openOf, letGoOf, filledOf, figuresOf}
 use Rattle.entry.specs.Stored.{lineAt, lineBytes, putLine, addLine, keyAt, keyIs, lineSound, slipKeyAt, slipIs, slipLineAt, slipCopiesAt, addSlip, slipSound}
 use Rattle.book.specs.Lent.{usedLines, usedSlips, lineRoom, slipRoom, roomSound, firstFrom, allFrom, sound, findLine, findSlip}
@@ -39,5 +40,5 @@ pub record Computed : Type 0 where
   pub ordered : trialWrong 1 trials ≡ 0
 
 pub computed : Computed
-unfolding all any run same among leAt leBytes belongs allOf ofClass padded named numberFrom leap monthDays realDay dayOf isDay checkValue weighted gs1 isbn seriesVolume article texts dayCount expected keeps layout total fixedWidth startOf kindOf firstBroken contents isIn ruleIn contentRule guardedIds guarded contentKept groups firstOf nextIn previousIn groupWith nextMember previousMember isWanted groupKept refusalNumber refusalPlace checkedOf _then_ headOf idIn idOf contentWidth contentOf fieldWidth afterField onHead atField walk judge fieldBytes bytesJudged fixedJudged afterWalk optionalJudged kindJudged judged cases firstWrong markByte withMark withArrivals openOf letGoOf filledOf figuresOf lineAt lineBytes putLine addLine keyAt keyIs lineSound slipKeyAt slipIs slipLineAt slipCopiesAt addSlip slipSound usedLines usedSlips lineRoom slipRoom roomSound firstFrom allFrom sound findLine findSlip refusedNumber refusedPlace fieldsAt keyFields lineKey slipKey copiesIn nothingToBook noCopies noReference markIn orderJudged slipJudged arrivalJudged goodsJudged deliveryJudged reportJudged bookJudged fitJudged newLine lineAfter lentAfter refusedAs doneAs enteredAs settled bookAs bookKind bookRead book desk sample sampleSays others othersSay unsound answersTo unsoundSays trials trialWrong
+unfolding all any run same among leAt leBytes belongs allOf ofClass padded named numberFrom leap monthDays realDay dayOf isDay checkValue weighted gs1 isbn seriesVolume article texts dayCount expected keeps layout total fixedWidth startOf kindOf firstBroken contents isIn ruleIn contentRule guardedIds guarded contentKept groups firstOf nextIn previousIn groupWith nextMember previousMember isWanted groupKept refusalNumber refusalPlace checkedOf _then_ headOf idIn idOf contentWidth contentOf fieldWidth afterField onHead atField walk judge fieldBytes bytesJudged fixedJudged afterWalk optionalJudged kindJudged judged entriesOf optionalStart tableAfter check fullTable cases firstWrong markByte withMark withArrivals openOf letGoOf filledOf figuresOf lineAt lineBytes putLine addLine keyAt keyIs lineSound slipKeyAt slipIs slipLineAt slipCopiesAt addSlip slipSound usedLines usedSlips lineRoom slipRoom roomSound firstFrom allFrom sound findLine findSlip refusedNumber refusedPlace fieldsAt keyFields lineKey slipKey copiesIn nothingToBook noCopies noReference markIn orderJudged slipJudged arrivalJudged goodsJudged deliveryJudged reportJudged bookJudged fitJudged newLine lineAfter lentAfter refusedAs doneAs enteredAs settled bookAs bookKind bookRead book desk sample sampleSays others othersSay unsound answersTo unsoundSays trials trialWrong
 computed = record { samples = refl; desk-sample = refl; desk-others = refl; broken = refl; keyed = calls-by-key; ordered = refl }

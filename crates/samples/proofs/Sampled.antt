@@ -21,9 +21,9 @@ use Rattle.record.specs.Edges.{C, recordEdges, orderEdges, deliveryEdges, walkE
 use Rattle.rules.specs.declared.expected.Expected.the-variants.{On, Zeros, Blanks}
 use Rattle.record.specs.declared.answer.Checked.{Checked}
 
--- what reading says of a record
+-- what the call of reading says of a record
 abbrev pub readSays : Call → List ℕ → Checked
-readSays call s = checkedOf (judged s)
+readSays call s = check s fullTable .said
 
 -- what is computed of reading: the number of the first row that is wrong is 0 in each table
 pub record Computed : Type 0 where
