@@ -6,7 +6,7 @@ use lib.ListN.{length, take, drop}
 use Rattle.record.specs.Layout.{mostFields, kindOf}
 use Rattle.record.specs.Answers.{checkedOf}
 use Rattle.record.specs.Fields.{Optional}
-use Rattle.record.specs.Read.{entryWidth, check, readOrder, readDelivery, readReport}
+use Rattle.record.specs.Read.{entryWidth, Outcome as Read, check, readOrder, readDelivery, readReport}
 use Rattle.record.specs.declared.answer.Verdict.the-variants.{Fits}
 use Rattle.record.specs.declared.layout.Kinded.the-variants.{Known}
 use Rattle.record.specs.declared.values.Party.{Party}
@@ -22,19 +22,26 @@ use Rattle.roundtrip.specs.Record.{Parts, fixedPart, textOf, IsRecord, C
 abbrev pub written : Outcome → List ℕ
 written o = take (o .said .length) (o .out)
 
+-- the two calls that the demand speaks of, as their contracts fix them: `reader::check` and `writing::write`
+abbrev pub readCall : List ℕ → List ℕ → Read
+readCall s lent = check s lent
+
+abbrev pub writeCall : List ℕ → List ℕ → ℕ → List ℕ → List ℕ → Outcome
+writeCall fixed table count contents out = write fixed table count contents out
+
 -- a lent table is large enough for every record
 abbrev pub LargeTable : List ℕ → Type 0
 LargeTable lent = mostFields * entryWidth ≤ length lent
 
 -- a check of a text with any large table is done, and fills the table so that the IDs and contents it names in the text are these, in order
 pub record Tabled (text : List ℕ) (fields : List Optional) : Type 0 where
-  pub reads : (lent : List ℕ) → LargeTable lent → check text lent .said ≡ checkedOf (Fits (length fields))
-  pub same-fields : (lent : List ℕ) → LargeTable lent → optionalOf text (entries (length fields) (check text lent .table)) ≡ fields
+  pub reads : (lent : List ℕ) → LargeTable lent → readCall text lent .said ≡ checkedOf (Fits (length fields))
+  pub same-fields : (lent : List ℕ) → LargeTable lent → optionalOf text (entries (length fields) (readCall text lent .table)) ≡ fields
 
 -- READ EXACTLY: the check answers 0 for the texts of records, where the table is large, and for nothing else
 pub record ReadExactly (s lent : List ℕ) : Type 0 where
-  pub only-records : check s lent .said .answer ≡ 0 → LargeTable lent × IsRecord s
-  pub all-records : LargeTable lent → IsRecord s → check s lent .said .answer ≡ 0
+  pub only-records : readCall s lent .said .answer ≡ 0 → LargeTable lent × IsRecord s
+  pub all-records : LargeTable lent → IsRecord s → readCall s lent .said .answer ≡ 0
 
 -- with what stands in them: of parts that make a record the check finds the kind, the fixed part and the optional fields
 pub record ReadsParts (r : Parts) : Type 0 where
@@ -44,9 +51,9 @@ pub record ReadsParts (r : Parts) : Type 0 where
 
 -- WRITE EXACTLY: writing answers 0 where its parts make a record and the output has room for it, and nowhere else; and then the record stands at the front of the output
 pub record WriteExactly (fixed table : List ℕ) (count : ℕ) (contents out : List ℕ) : Type 0 where
-  pub only-records : write fixed table count contents out .said .answer ≡ 0 → CanWrite fixed table count contents out
+  pub only-records : writeCall fixed table count contents out .said .answer ≡ 0 → CanWrite fixed table count contents out
   pub all-records : CanWrite fixed table count contents out
-      → write fixed table count contents out
+      → writeCall fixed table count contents out
       ≡ outcome (record { answer = 0; place = 0; length = length (recordText fixed (optionalOf contents (entries count table))) })
       (recordText fixed (optionalOf contents (entries count table)) ++ drop (length (recordText fixed (optionalOf contents (entries count table)))) out)
 
@@ -59,7 +66,7 @@ pub record ReadsBack (fixed table : List ℕ) (count : ℕ) (contents text : Lis
 -- WRITE AFTER READ: what writing says of a record s that was read, with the table that the check filled and the record itself as lent contents: done, and the same bytes stand at the front of the output
 abbrev pub WritesBack : List ℕ → List ℕ → ℕ → List ℕ → List ℕ → Type 0
 WritesBack fixed table n s out =
-    write fixed table n s out ≡ outcome (record { answer = 0; place = 0; length = length s }) (s ++ drop (length s) out)
+    writeCall fixed table n s out ≡ outcome (record { answer = 0; place = 0; length = length s }) (s ++ drop (length s) out)
 
 -- the arrays of a typed record have their widths, as those of every value of its type in the code do
 pub record PartyShaped (p : Party) : Type 0 where
@@ -96,15 +103,15 @@ pub record ReportShaped (m : Report) : Type 0 where
 
 -- what is written of a typed order reads back as it, with its optional fields
 pub record OrderReadsBack (o : Order) (table : List ℕ) (count : ℕ) (contents out : List ℕ) : Type 0 where
-  pub reads : readOrder (written (write (orderBytes o) table count contents out)) ≡ record { checked = checkedOf (Fits count); order = o }
-  pub fields : Tabled (written (write (orderBytes o) table count contents out)) (optionalOf contents (entries count table))
+  pub reads : readOrder (written (writeCall (orderBytes o) table count contents out)) ≡ record { checked = checkedOf (Fits count); order = o }
+  pub fields : Tabled (written (writeCall (orderBytes o) table count contents out)) (optionalOf contents (entries count table))
 
 -- what is written of a typed delivery reads back as it, with its optional fields
 pub record DeliveryReadsBack (d : Delivery) (table : List ℕ) (count : ℕ) (contents out : List ℕ) : Type 0 where
-  pub reads : readDelivery (written (write (deliveryBytes d) table count contents out)) ≡ record { checked = checkedOf (Fits count); delivery = d }
-  pub fields : Tabled (written (write (deliveryBytes d) table count contents out)) (optionalOf contents (entries count table))
+  pub reads : readDelivery (written (writeCall (deliveryBytes d) table count contents out)) ≡ record { checked = checkedOf (Fits count); delivery = d }
+  pub fields : Tabled (written (writeCall (deliveryBytes d) table count contents out)) (optionalOf contents (entries count table))
 
 -- what is written of a typed report reads back as it, with its optional fields
 pub record ReportReadsBack (m : Report) (table : List ℕ) (count : ℕ) (contents out : List ℕ) : Type 0 where
-  pub reads : readReport (written (write (reportBytes m) table count contents out)) ≡ record { checked = checkedOf (Fits count); report = m }
-  pub fields : Tabled (written (write (reportBytes m) table count contents out)) (optionalOf contents (entries count table))
+  pub reads : readReport (written (writeCall (reportBytes m) table count contents out)) ≡ record { checked = checkedOf (Fits count); report = m }
+  pub fields : Tabled (written (writeCall (reportBytes m) table count contents out)) (optionalOf contents (entries count table))
