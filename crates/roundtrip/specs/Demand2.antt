@@ -3,11 +3,12 @@ use Prim.Native.Nat.{ℕ, _*_, _≤_}
 use mathlib.Core.Path.{_≡_}
 use mathlib.Core.List.{List, _++_}
 use lib.ListN.{length, take, drop}
-use Rattle.record.specs.Layout.{mostFields, kindOf}
+use Rattle.record.specs.Layout.{mostFields, fixedWidth, kindOf}
 use Rattle.record.specs.Answers.{checkedOf}
 use Rattle.record.specs.Fields.{Optional}
 use Rattle.record.specs.Read.{entryWidth, Outcome as Read, check, readOrder, readDelivery, readReport}
 use Rattle.record.specs.declared.answer.Verdict.the-variants.{Fits}
+use Rattle.record.specs.declared.layout.Kind.{Kind}
 use Rattle.record.specs.declared.layout.Kinded.the-variants.{Known}
 use Rattle.record.specs.declared.values.Party.{Party}
 use Rattle.record.specs.declared.values.Article.{Article}
@@ -16,7 +17,7 @@ use Rattle.record.specs.declared.values.Delivery.{Delivery}
 use Rattle.record.specs.declared.values.Report.{Report}
 use Rattle.writing.specs.Write.{Outcome, outcome, entries, optionalOf, recordText, write}
 use Rattle.writing.specs.Typed.{orderBytes, deliveryBytes, reportBytes}
-use Rattle.roundtrip.specs.Record.{Parts, fixedPart, textOf, IsRecord, CanWrite}
+use Rattle.roundtrip.specs.Record.{Parts, fixedPart, textOf, MakesRecord, IsRecord, CanWrite}
 
 -- the record that a writing put at the front of its output
 abbrev pub written : Outcome → List ℕ
@@ -67,6 +68,21 @@ pub record ReadsBack (fixed table : List ℕ) (count : ℕ) (contents text : Lis
 abbrev pub WritesBack : List ℕ → List ℕ → ℕ → List ℕ → List ℕ → Type 0
 WritesBack fixed table n s out =
     writeCall fixed table n s out ≡ outcome (record { answer = 0; place = 0; length = length s }) (s ++ drop (length s) out)
+
+-- DEMAND 2, for all inputs
+pub record Demand2 : Type 0 where
+  -- reading answers 0 for the texts of records, where the table is large, and for nothing else
+  pub read-exactly : (s lent : List ℕ) → ReadExactly s lent
+  -- and finds in the text of a record the parts that it was made of
+  pub reads-parts : (r : Parts) → MakesRecord r → ReadsParts r
+  -- writing answers 0 where its parts make a record and the output has room for it, and nowhere else, and puts that record at the front of the output
+  pub write-exactly : (fixed table : List ℕ) (count : ℕ) (contents out : List ℕ) → WriteExactly fixed table count contents out
+  -- read after write gives the fields
+  pub read-after-write : (fixed table : List ℕ) (count : ℕ) (contents out : List ℕ) → writeCall fixed table count contents out .said .answer ≡ 0
+      → ReadsBack fixed table count contents (written (writeCall fixed table count contents out))
+  -- write after read gives the bytes
+  pub write-after-read : (k : Kind) (s lent out : List ℕ) → kindOf s ≡ Known k → readCall s lent .said .answer ≡ 0 → length s ≤ length out
+      → WritesBack (take (fixedWidth k) s) (readCall s lent .table) (readCall s lent .said .fields) s out
 
 -- the arrays of a typed record have their widths, as those of every value of its type in the code do
 pub record PartyShaped (p : Party) : Type 0 where

@@ -16,9 +16,9 @@ use Rattle.record.specs.Read.{entryWidth}
 use Rattle.record.specs.declared.layout.Field.{Field}
 use Rattle.record.specs.declared.layout.Kind.{Kind}
 use Rattle.record.specs.declared.layout.Kinded.the-variants.{Known}
-use Rattle.writing.specs.Write.{entries, optionalOf, inside, recordText}
+use Rattle.writing.specs.Write.{entries, optionalOf, recordText}
+use Rattle.writing.specs.Widths.{allInside}
 use Rattle.writing.specs.Typed.{joined}
-use Rattle.writing.specs.declared.entries.Entry.{Entry}
 
 -- the parts that a record is made of: its kind, the fields of its fixed part in order, and its optional fields in order
 pub record Parts : Type 0 where
@@ -80,11 +80,6 @@ pub record Makes (fixed : List ℕ) (optional : List Optional) : Type 0 where
   pub makes : MakesRecord parts
   pub same-fixed : fixedPart parts ≡ fixed
   pub same-optional : parts .optional ≡ optional
-
--- each content stands inside the lent bytes
-unfoldable pub allInside : List ℕ → List Entry → Bool
-allInside contents [] = true
-allInside contents (e ∷ es) = inside contents e && allInside contents es
 
 -- what writing needs: the table has its entries, their contents stand inside the lent bytes, they make a record with the fixed part, and the output has room for it
 pub record CanWrite (fixed table : List ℕ) (count : ℕ) (contents out : List ℕ) : Type 0 where
