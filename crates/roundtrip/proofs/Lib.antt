@@ -1,4 +1,5 @@
 pub mod BytesBack
+pub mod Computed
 pub mod Demand2
 pub mod DigitsBack
 pub mod EntriesBack
