@@ -1,4 +1,4 @@
--- Demand 2 whole, for the typed records of all three kinds. The halves over bytes are `read-after-write` and `write-after-read`.
+-- Demand 2 whole, and beside it the two halves of the round trip for the typed records of all three kinds.
 use mathlib.Core.Path.{_≡_, _∙_, ap, sym, refl, subst}
 use mathlib.Core.Bool.{Bool, true, false}
 use mathlib.Core.List.{List, _++_}
@@ -14,7 +14,7 @@ use Rattle.rules.proofs.Runs.{run-all}
 use Rattle.record.specs.Layout.{dateStart, layout, total, fixedWidth, kindOf}
 use Rattle.record.specs.Answers.{checkedOf}
 use Rattle.record.specs.Values.{orderOf, deliveryOf, reportOf}
-use Rattle.record.specs.Read.{judged, check, judgedAs, orderFrom, deliveryFrom, reportFrom, readOrder, readDelivery, readReport}
+use Rattle.record.specs.Read.{judged, judgedAs, orderFrom, deliveryFrom, reportFrom, readOrder, readDelivery, readReport}
 use Rattle.record.specs.declared.answer.Verdict.{Verdict}
 use Rattle.record.specs.declared.answer.Verdict.the-variants.{Refused, Fits}
 use Rattle.record.specs.declared.answer.Checked.{Checked}
@@ -27,12 +27,24 @@ use Rattle.record.specs.declared.values.Delivery.{Delivery}
 use Rattle.record.specs.declared.values.Report.{Report}
 use Rattle.reader.proofs.Stages.{as-named}
 use Rattle.reader.proofs.Fitting.{fitting, name-of, fits-known, fits-long}
-use Rattle.writing.specs.Write.{write}
+use Rattle.writing.specs.Write.{entries, optionalOf}
 use Rattle.writing.specs.Typed.{joined, orderFields, deliveryFields, reportFields, orderBytes, deliveryBytes, reportBytes}
-use Rattle.roundtrip.specs.Demand2.{ReadsBack, WritesBack, OrderShaped, DeliveryShaped, ReportShaped, OrderReadsBack, DeliveryReadsBack, ReportReadsBack}
+use Rattle.roundtrip.specs.Demand2.{readCall, writeCall, ReadsBack, WritesBack, Demand2, OrderShaped, DeliveryShaped, ReportShaped, OrderReadsBack, DeliveryReadsBack, ReportReadsBack}
 use Rattle.roundtrip.proofs.Typed.{order-values, delivery-values, report-values, order-bytes-of, delivery-bytes-of, report-bytes-of}
+use Rattle.roundtrip.proofs.ReadExactly.{verdict-fits, tabled-fits, reads-parts, read-exactly}
+use Rattle.roundtrip.proofs.WriteExactly.{write-exactly}
 use Rattle.roundtrip.proofs.ReadAfterWrite.{read-after-write}
-use Rattle.roundtrip.proofs.WriteAfterRead.{verdict-fits, write-after-read}
+use Rattle.roundtrip.proofs.WriteAfterRead.{write-after-read}
+
+-- exactly the records that `Record` lays down are read and written; read after write gives the fields, write after read the bytes
+pub demand2 : Demand2
+demand2 = record {
+  read-exactly = read-exactly;
+  reads-parts = reads-parts;
+  write-exactly = write-exactly;
+  read-after-write = read-after-write;
+  write-after-read = write-after-read;
+}
 
 -- a text that fits and begins with a kind's name is read as that kind
 named : (name text : List ℕ) (n : ℕ) → judged text ≡ Fits n → slice 0 4 text ≡ name → judgedAs name text ≡ Fits n
@@ -47,10 +59,14 @@ module _ (fixed table : List ℕ) (count : ℕ) (contents text : List ℕ) (b : 
   unfolding behind
   in-front = sym (take-append-drop (length fixed) text) ∙ ap (λ (l : List ℕ). l ++ drop (length fixed) text) (b .same-fixed)
 
+  -- it fits with as many optional fields as were given
+  fits : judged text ≡ Fits count
+  fits = tabled-fits text (optionalOf contents (entries count table)) (b .same-fields) ∙ ap Fits (b .as-many)
+
   fixed-allowed : all (belongs Allowed) fixed ≡ true
   fixed-allowed =
-      let k = fits-known text count (b .reads) in
-      let a = run-all (belongs Allowed) text (fitting (k .0) text count (k .1) (b .reads) .allowed) in
+      let k = fits-known text count fits in
+      let a = run-all (belongs Allowed) text (fitting (k .0) text count (k .1) fits .allowed) in
       ap (all (belongs Allowed)) (sym (b .same-fixed)) ∙ all-take (belongs Allowed) (length fixed) text a
 
 -- the typed record that is read where a record fits
@@ -68,30 +84,30 @@ report-read s n e = rw e
 
 -- READ AFTER WRITE: what is written of a typed record answers 0 and gives the same typed record, the same number of optional fields, and the same IDs and contents in the same order
 module _ (table : List ℕ) (count : ℕ) (contents out : List ℕ) where
-  pub order-reads-back : (o : Order) → OrderShaped o → write (orderBytes o) table count contents out .said .answer ≡ 0 → OrderReadsBack o table count contents out
+  pub order-reads-back : (o : Order) → OrderShaped o → writeCall (orderBytes o) table count contents out .said .answer ≡ 0 → OrderReadsBack o table count contents out
   unfolding orderBytes orderFields joined
   order-reads-back o h e =
       let b = read-after-write (orderBytes o) table count contents out e in
       let f = in-front (orderBytes o) table count contents _ b in
-      let a = named (bytes "B101") _ count (b .reads) (ap (slice 0 4) f) in
+      let a = named (bytes "B101") _ count (fits (orderBytes o) table count contents _ b) (ap (slice 0 4) f) in
       let v = ap orderOf f ∙ order-values o _ h (fixed-allowed (orderBytes o) table count contents _ b) in
       record { reads = order-read _ count a ∙ ap (λ (x : Order). record { checked = checkedOf (Fits count); order = x }) v; fields = b .same-fields }
 
-  pub delivery-reads-back : (d : Delivery) → DeliveryShaped d → write (deliveryBytes d) table count contents out .said .answer ≡ 0 → DeliveryReadsBack d table count contents out
+  pub delivery-reads-back : (d : Delivery) → DeliveryShaped d → writeCall (deliveryBytes d) table count contents out .said .answer ≡ 0 → DeliveryReadsBack d table count contents out
   unfolding deliveryBytes deliveryFields joined
   delivery-reads-back d h e =
       let b = read-after-write (deliveryBytes d) table count contents out e in
       let f = in-front (deliveryBytes d) table count contents _ b in
-      let a = named (bytes "L101") _ count (b .reads) (ap (slice 0 4) f) in
+      let a = named (bytes "L101") _ count (fits (deliveryBytes d) table count contents _ b) (ap (slice 0 4) f) in
       let v = ap deliveryOf f ∙ delivery-values d _ h (fixed-allowed (deliveryBytes d) table count contents _ b) in
       record { reads = delivery-read _ count a ∙ ap (λ (x : Delivery). record { checked = checkedOf (Fits count); delivery = x }) v; fields = b .same-fields }
 
-  pub report-reads-back : (m : Report) → ReportShaped m → write (reportBytes m) table count contents out .said .answer ≡ 0 → ReportReadsBack m table count contents out
+  pub report-reads-back : (m : Report) → ReportShaped m → writeCall (reportBytes m) table count contents out .said .answer ≡ 0 → ReportReadsBack m table count contents out
   unfolding reportBytes reportFields joined
   report-reads-back m h e =
       let b = read-after-write (reportBytes m) table count contents out e in
       let f = in-front (reportBytes m) table count contents _ b in
-      let a = named (bytes "M101") _ count (b .reads) (ap (slice 0 4) f) in
+      let a = named (bytes "M101") _ count (fits (reportBytes m) table count contents _ b) (ap (slice 0 4) f) in
       let v = ap reportOf f ∙ report-values m _ h (fixed-allowed (reportBytes m) table count contents _ b) in
       record { reads = report-read _ count a ∙ ap (λ (x : Report). record { checked = checkedOf (Fits count); report = x }) v; fields = b .same-fields }
 
@@ -112,23 +128,23 @@ report-checked (Refused r) s = refl
 report-checked (Fits n) s = refl
 
 -- WRITE AFTER READ: what was read of a record, written with the table that the check filled and the record itself as lent contents, answers 0 and gives the same bytes
-module _ (s table out : List ℕ) (c : check s table .said .answer ≡ 0) (room : length s ≤ length out) where
-  pub order-writes-back : readOrder s .checked .answer ≡ 0 → WritesBack (orderBytes (readOrder s .order)) (check s table .table) (check s table .said .fields) s out
+module _ (s table out : List ℕ) (c : readCall s table .said .answer ≡ 0) (room : length s ≤ length out) where
+  pub order-writes-back : readOrder s .checked .answer ≡ 0 → WritesBack (orderBytes (readOrder s .order)) (readCall s table .table) (readCall s table .said .fields) s out
   unfolding readOrder kindOf same
   order-writes-back e =
       let v = verdict-fits (judgedAs (bytes "B101") s) (ap (λ (x : Checked). x .answer) (sym (order-checked (judgedAs (bytes "B101") s) s)) ∙ e) in
       let r = ap (λ (x : ReadOrder). x .order) (order-read s (v .0) (v .1)) in
       let f = ap orderBytes r ∙ order-bytes-of s (v .0) (v .1) in
-      subst (λ (x : List ℕ). WritesBack x (check s table .table) (check s table .said .fields) s out) (sym f)
+      subst (λ (x : List ℕ). WritesBack x (readCall s table .table) (readCall s table .said .fields) s out) (sym f)
       (write-after-read order s table out (rw (name-of (bytes "B101") s (v .0) (v .1))) c room)
 
-  pub report-writes-back : readReport s .checked .answer ≡ 0 → WritesBack (reportBytes (readReport s .report)) (check s table .table) (check s table .said .fields) s out
+  pub report-writes-back : readReport s .checked .answer ≡ 0 → WritesBack (reportBytes (readReport s .report)) (readCall s table .table) (readCall s table .said .fields) s out
   unfolding readReport kindOf same
   report-writes-back e =
       let v = verdict-fits (judgedAs (bytes "M101") s) (ap (λ (x : Checked). x .answer) (sym (report-checked (judgedAs (bytes "M101") s) s)) ∙ e) in
       let r = ap (λ (x : ReadReport). x .report) (report-read s (v .0) (v .1)) in
       let f = ap reportBytes r ∙ report-bytes-of s (v .0) (v .1) in
-      subst (λ (x : List ℕ). WritesBack x (check s table .table) (check s table .said .fields) s out) (sym f)
+      subst (λ (x : List ℕ). WritesBack x (readCall s table .table) (readCall s table .said .fields) s out) (sym f)
       (write-after-read report s table out (rw (name-of (bytes "M101") s (v .0) (v .1))) c room)
 
   -- a closing record's fixed part is as long as a goods record's
@@ -137,12 +153,12 @@ module _ (s table out : List ℕ) (c : check s table .said .answer ≡ 0) (room 
   either-way true = refl
   either-way false = refl
 
-  pub delivery-writes-back : readDelivery s .checked .answer ≡ 0 → WritesBack (deliveryBytes (readDelivery s .delivery)) (check s table .table) (check s table .said .fields) s out
+  pub delivery-writes-back : readDelivery s .checked .answer ≡ 0 → WritesBack (deliveryBytes (readDelivery s .delivery)) (readCall s table .table) (readCall s table .said .fields) s out
   unfolding readDelivery kindOf same
   delivery-writes-back e =
       let v = verdict-fits (judgedAs (bytes "L101") s) (ap (λ (x : Checked). x .answer) (sym (delivery-checked (judgedAs (bytes "L101") s) s)) ∙ e) in
       let r = ap (λ (x : ReadDelivery). x .delivery) (delivery-read s (v .0) (v .1)) in
       let b = ofClass Zero dayWidth dayWidth (slice dateStart (dateStart + dayWidth) s) in
       let f = ap deliveryBytes r ∙ delivery-bytes-of s (v .0) (v .1) ∙ ap (λ (w : ℕ). take w s) (sym (either-way b)) in
-      subst (λ (x : List ℕ). WritesBack x (check s table .table) (check s table .said .fields) s out) (sym f)
+      subst (λ (x : List ℕ). WritesBack x (readCall s table .table) (readCall s table .said .fields) s out) (sym f)
       (write-after-read (pick b closing goods) s table out (rw (name-of (bytes "L101") s (v .0) (v .1))) c room)

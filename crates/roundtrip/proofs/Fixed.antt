@@ -1,16 +1,14 @@
 -- No field of a fixed part is faulty just where each keeps its rule and each byte is allowed.
-use mathlib.Core.Path.{_≡_, ap, refl}
+use mathlib.Core.Path.{_≡_}
 use mathlib.Core.List.{List, [], _∷_}
-use Prim.Native.Nat.{ℕ, suc, _+_, _-_, _≤_}
+use Prim.Native.Nat.{ℕ, _-_, _≤_}
 use native.Mathlib.Omega.{arith}
-use borrow.Author.Tests.{le-ltb, ltb-false}
+use borrow.Author.Tests.{ltb-false}
 use lib.Dec.{ltb}
-use lib.ListN.{length, take, drop}
-use lib.Seq.{slice}
+use lib.ListN.{length}
 use Rattle.cells.specs.Bytes.{run}
 use Rattle.cells.proofs.Bools.{split}
 use Rattle.rules.specs.Class.{belongs}
-use Rattle.rules.specs.Rule.{keeps}
 use Rattle.rules.specs.declared.class.Class.the-variants.{Allowed}
 use Rattle.rules.proofs.Runs.{run-most}
 use Rattle.record.specs.Layout.{layout, total, fixedWidth, firstBroken}

@@ -5,7 +5,7 @@ use mathlib.Core.List.{List, [], _∷_, _++_, map, append-assoc}
 use Prim.Native.Nat.{ℕ, zero, suc, _+_}
 use native.Mathlib.Nat.{add-zero, zero-add}
 use native.Mathlib.Omega.{arith}
-use lib.ListN.{length, getD, take, drop}
+use lib.ListN.{length, getD, take}
 use lib.Seq.{slice, take-nil, take-at, drop-at}
 use Rattle.cells.specs.Bytes.{all}
 use Rattle.cells.proofs.Bools.{and-left, and-right}
@@ -56,7 +56,7 @@ fieldsFrom [] at s = []
 fieldsFrom (f ∷ fs) at s = slice at (at + f .size) s ∷ fieldsFrom fs (at + f .size) s
 
 -- they are, one after the other, what stands there
-fields-there : (fs : List Field) (at : ℕ) (s : List ℕ) → joined (fieldsFrom fs at s) ≡ slice at (at + total fs) s
+pub fields-there : (fs : List Field) (at : ℕ) (s : List ℕ) → joined (fieldsFrom fs at s) ≡ slice at (at + total fs) s
 unfolding joined fieldsFrom total
 fields-there [] at s = sym (nothing at (at + 0) s (omega arith))
 fields-there (f ∷ fs) at s = rw (fields-there fs (at + f .size) s) (parts-join at (f .size) (total fs) s)

@@ -1,5 +1,5 @@
 -- Plain lists: their parts, and tests that hold at each byte.
-use mathlib.Core.Path.{_≡_, ap, ap₂, refl}
+use mathlib.Core.Path.{_≡_, ap, ap₂, sym, refl}
 use mathlib.Core.Bool.{Bool, true, _&&_}
 use mathlib.Core.List.{List, [], _∷_, _++_}
 use Prim.Native.Nat.{ℕ, _+_, _≤_}
@@ -9,7 +9,7 @@ use lib.Dec.{eqb}
 use lib.ListN.{length, getD, take, drop, replicate}
 use lib.Seq.{slice, take-append-le}
 use Rattle.cells.specs.Bytes.{all, run}
-use Rattle.cells.proofs.Bools.{split, and-left, and-right}
+use Rattle.cells.proofs.Bools.{split, and-left, and-right, and-false}
 
 -- a part that ends within the first of two lists is a part of it
 pub slice-append-le : (a b : ℕ) (xs ys : List ℕ) → b ≤ length xs → slice a b (xs ++ ys) ≡ slice a b xs
@@ -28,13 +28,13 @@ all-one a [] e = refl
 all-one a (x ∷ xs) e =
     ap₂ (λ (z : ℕ) (zs : List ℕ). z ∷ zs) (eqb-true x a (and-left (eqb x a) _ e)) (all-one a xs (and-right (eqb x a) _ e))
 
--- where two tests hold at each byte, both do
-pub all-both : (p q : ℕ → Bool) (s : List ℕ) → all p s ≡ true → all q s ≡ true → all (λ b. p b && q b) s ≡ true
+-- two tests hold at each byte just where the one does and the other does
+pub all-and : (p q : ℕ → Bool) (s : List ℕ) → all (λ b. p b && q b) s ≡ all p s && all q s
 unfolding all
-all-both p q [] e f = refl
-all-both p q (x ∷ xs) e f =
-    rw (and-left (p x) (all p xs) e, and-left (q x) (all q xs) f)
-    (all-both p q xs (and-right (p x) (all p xs) e) (and-right (q x) (all q xs) f))
+all-and p q [] = refl
+all-and p q (x ∷ xs) =
+    let ih = all-and p q xs in
+    split (p x) (λ e. rw e (split (q x) (λ f. rw f ih) (λ f. rw f (sym (and-false (all p xs)))))) (λ e. rw e)
 
 module _ (p : ℕ → Bool) where
   -- a test holds at each byte of the run at the front of a list

@@ -1,6 +1,6 @@
 -- Optional fields as they are written, and what reading finds there.
 use mathlib.Core.Path.{_≡_, _∙_, ap, refl}
-use mathlib.Core.Bool.{true}
+use mathlib.Core.Bool.{Bool, true, _&&_}
 use mathlib.Core.List.{List, [], _∷_, _++_, append-assoc}
 use Prim.Native.Nat.{ℕ, zero, suc, _+_, _^_, _≤_, _<_}
 use native.Mathlib.Omega.{arith}
@@ -11,7 +11,7 @@ use lib.Seq.{slice, take-at, drop-at, drop-drop, take-append-seam, drop-append-s
 use Rattle.cells.specs.Bytes.{bytes, all, run}
 use Rattle.cells.proofs.Bools.{and-left, and-right}
 use Rattle.cells.proofs.Lists.{all-weaker, all-append}
-use Rattle.rules.specs.Class.{allowed, belongs, allOf, ofClass}
+use Rattle.rules.specs.Class.{belongs, allOf, ofClass}
 use Rattle.rules.specs.Number.{numberFrom}
 use Rattle.rules.specs.declared.class.Class.the-variants.{Allowed, Digit}
 use Rattle.record.specs.Fields.{lastId, headWidth, headOf, idIn, idOf, notStar, contentWidth, contentOf, fieldWidth, afterField, atField, onHead, walk, Optional, fieldsOf}
@@ -19,29 +19,22 @@ use Rattle.record.specs.declared.fields.Head.the-variants.{Id}
 use Rattle.record.specs.declared.answer.Verdict.{Verdict}
 use Rattle.record.specs.declared.answer.Verdict.the-variants.{Fits}
 use Rattle.writing.specs.Digits.{digitsOf}
-use Rattle.writing.specs.Write.{contentByte, fieldText, optionalText}
+use Rattle.writing.specs.Write.{fieldText, optionalText}
 use Rattle.writing.proofs.Decimals.{digits-length}
 use Rattle.roundtrip.proofs.Sequences.{run-append}
 use Rattle.roundtrip.proofs.DigitsBack.{digits-all, number-of-digits}
 
--- a field that may be written: an ID below 9999, and bytes that may stand in a content
+-- a field that can be told from what follows it: an ID below 9999, and no star in its content
 pub record Writable (f : Optional) : Type 0 where
   pub below : f .id < lastId
-  pub plain : all contentByte (f .content) ≡ true
+  pub plain : all notStar (f .content) ≡ true
 
--- each field of a list may be written
+-- so each field of a list
 abbrev pub AllWritable : List Optional → Type 0
 AllWritable [] = Unit
 AllWritable (f ∷ fs) = Writable f × AllWritable fs
 
--- a byte of a content is no star, and is allowed; so is a digit
-content-not-star : (b : ℕ) → contentByte b ≡ true → notStar b ≡ true
-content-not-star b e = and-right (allowed b) (notStar b) e
-
-content-allowed : (b : ℕ) → contentByte b ≡ true → belongs Allowed b ≡ true
-unfolding belongs
-content-allowed b e = and-left (allowed b) (notStar b) e
-
+-- a digit is allowed
 digit-allowed : (b : ℕ) → belongs Digit b ≡ true → belongs Allowed b ≡ true
 unfolding belongs
 digit-allowed b e =
@@ -79,9 +72,7 @@ module _ (f : Optional) (rest : List ℕ) where
     module _ (e : run notStar rest ≡ 0) where
       pub text-width : contentWidth (fieldText f ++ rest) ≡ length (f .content)
       unfolding contentWidth
-      text-width =
-          rw (text-behind, run-append notStar (f .content) rest (all-weaker contentByte notStar content-not-star (f .content) (w .plain)), e)
-          (omega arith)
+      text-width = rw (text-behind, run-append notStar (f .content) rest (w .plain), e) (omega arith)
 
       -- its content
       pub text-content : contentOf (fieldText f ++ rest) ≡ f .content
@@ -106,18 +97,23 @@ unfolding optionalText
 text-least [] = omega arith
 text-least (f ∷ fs) = omega (arith, text-least fs, length-append (fieldText f) (optionalText fs))
 
--- each byte of a field is allowed
-field-allowed : (f : Optional) → Writable f → all (belongs Allowed) (fieldText f) ≡ true
-unfolding fieldText all belongs allOf
-field-allowed f w =
+-- each byte of a field is allowed just where each byte of its content is
+field-allowed : (f : Optional) → all (belongs Allowed) (fieldText f) ≡ all (belongs Allowed) (f .content)
+unfolding fieldText all allOf belongs
+field-allowed f =
     let d = all-weaker (belongs Digit) (belongs Allowed) digit-allowed (digitsOf 4 (f .id)) (digits-all 4 (f .id)) in
-    rw (all-append, d) (all-weaker contentByte (belongs Allowed) content-allowed (f .content) (w .plain))
+    rw (all-append, d)
 
--- so is each byte of the optional part
-pub text-allowed : (fs : List Optional) → AllWritable fs → all (belongs Allowed) (optionalText fs) ≡ true
-unfolding optionalText all belongs
-text-allowed [] w = refl
-text-allowed (f ∷ fs) w = rw (all-append, field-allowed f (w .0)) (text-allowed fs (w .1))
+-- each byte of the contents of fields is allowed
+unfoldable pub contentsAllowed : List Optional → Bool
+contentsAllowed [] = true
+contentsAllowed (f ∷ fs) = all (belongs Allowed) (f .content) && contentsAllowed fs
+
+-- just where each byte of the optional part is
+pub text-allowed : (fs : List Optional) → all (belongs Allowed) (optionalText fs) ≡ contentsAllowed fs
+unfolding optionalText contentsAllowed all belongs
+text-allowed [] = refl
+text-allowed (f ∷ fs) = rw (all-append, field-allowed f, text-allowed fs)
 
 -- what stands at its end is the last field
 last-head : headOf (bytes "*9999") ≡ Id lastId

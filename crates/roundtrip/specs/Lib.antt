@@ -1,1 +1,3 @@
+pub mod Record
+pub mod Cases
 pub mod Demand2
