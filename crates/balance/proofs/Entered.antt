@@ -10,6 +10,7 @@ use lib.ListN.{length, set, length-set}
 use lib.Seq.{getD-set-same, getD-set-other}
 use borrow.Author.Tests.{eqb-true, eqb-false}
 use Rattle.cells.proofs.Bools.{split}
+use Rattle.rules.specs.declared.amount.Copies.{Copies}
 use Rattle.entry.specs.Stored.{lineWidth, keyWidth, slipWidth, slipKeyWidth, putLine, addLine, keyAt, slipLineAt, addSlip}
 use Rattle.entry.specs.declared.line.Line.{Line as Stored}
 use Rattle.entry.proofs.Kept.{put-length, put-back, put-apart, put-key, add-length, add-back, add-key, add-apart, add-key-apart, slip-length, slip-key, slip-line, slip-copies, slip-key-apart, slip-line-apart, slip-copies-apart}
@@ -23,7 +24,7 @@ use Rattle.balance.proofs.Soundness.{still-sound, Kept, line-room, slip
 
 -- a line with a key, as the book tells it
 unfoldable pub lineOf : Key → Stored → Line
-lineOf key l = record { key = key; asked = record { copies = l .ordered }; arrived = l .arrived; last = reportOf (l .mark) }
+lineOf key l = record { key = key; asked = record { copies = l .ordered .0 }; arrived = l .arrived .0; last = reportOf (l .mark) }
 
 -- the values of a line written over the line at i
 abbrev pub withLine : Lent → ℕ → Stored → Lent
@@ -144,10 +145,10 @@ module _ (b : Lent) (key : Key) (l : Stored) (k : Kept b) (room : usedLines b < 
       }
 
 -- a slip added that names the line at i
-abbrev pub moreSlip : Lent → Key → ℕ → ℕ → Lent
+abbrev pub moreSlip : Lent → Key → ℕ → Copies → Lent
 moreSlip b key i copies = record { lines = b .lines; slips = addSlip (b .slips) (usedSlips b) key i copies; used = set (b .used) 1 (usedSlips b + 1) }
 
-module _ (b : Lent) (key : Key) (i copies : ℕ) (k : Kept b) (room : usedSlips b < slipRoom b) (wide : length key ≡ slipKeyWidth) (used : i < usedLines b) (few : copies < 65536) where
+module _ (b : Lent) (key : Key) (i : ℕ) (copies : Copies) (k : Kept b) (room : usedSlips b < slipRoom b) (wide : length key ≡ slipKeyWidth) (used : i < usedLines b) (few : copies .0 < 65536) where
   pub slip-next : slipWidth * usedSlips b + slipWidth ≤ length (b .slips)
   slip-next = slip-room b (sound-so b (k .is-sound)) (usedSlips b) room
 
@@ -174,13 +175,13 @@ module _ (b : Lent) (key : Key) (i copies : ℕ) (k : Kept b) (room : usedSlips 
       let ne : x ≢ usedSlips b = λ e. omega arith in
       rw (slip-line-apart (b .slips) (usedSlips b) key i copies wide x ne, slip-key-apart (b .slips) (usedSlips b) key i copies wide x ne, slip-copies-apart (b .slips) (usedSlips b) key i copies wide x ne)
 
-  slip-here : slipTold (b .lines) (addSlip (b .slips) (usedSlips b) key i copies) (usedSlips b) ≡ record { line = keyAt (b .lines) i; says = record { slip = key; copies = copies } }
+  slip-here : slipTold (b .lines) (addSlip (b .slips) (usedSlips b) key i copies) (usedSlips b) ≡ record { line = keyAt (b .lines) i; says = record { slip = key; copies = copies .0 } }
   unfolding slipTold
   slip-here =
       rw (names, slip-key (b .slips) (usedSlips b) key i copies wide slip-next, slip-copies (b .slips) (usedSlips b) key i copies wide slip-next few)
 
   -- each slip is told as before, and the new one last
-  pub slip-slips : told (moreSlip b key i copies) .slips ≡ told b .slips ++ (record { line = keyAt (b .lines) i; says = record { slip = key; copies = copies } } ∷ [])
+  pub slip-slips : told (moreSlip b key i copies) .slips ≡ told b .slips ++ (record { line = keyAt (b .lines) i; says = record { slip = key; copies = copies .0 } } ∷ [])
   unfolding told
   slip-slips =
       let f = slipTold (b .lines) (addSlip (b .slips) (usedSlips b) key i copies) in

@@ -10,6 +10,7 @@ use lib.ListN.{length}
 use borrow.Author.Tests.{ltb-true, leb-true, eqb-false}
 use Rattle.cells.specs.Bytes.{pick, bytes, same}
 use Rattle.cells.proofs.Bools.{split}
+use Rattle.rules.specs.declared.amount.Copies.{Copies}
 use Rattle.record.specs.Values.{fieldBytes}
 use Rattle.record.specs.declared.layout.Kind.{Kind}
 use Rattle.record.specs.declared.layout.Kind.the-variants.{Order, Goods, Closing, Report}
@@ -68,18 +69,18 @@ module _ (b : Lent) (i : ℕ) where
       (refl, (ltb-true (usedLines b) (lineRoom b) (p .0), cc))
 
   -- a delivery that fits: no slip has its key, a line has its line key, and there is room for its copies and its slip
-  arrival-fits : (copies j : ℕ) → arrivalJudged b copies j ≡ Fits i
-      → (i ≡ j) × ((lineAt (b .lines) j .arrived + copies ≤ mostArrived) × (usedSlips b < slipRoom b))
+  arrival-fits : (copies : Copies) (j : ℕ) → arrivalJudged b copies j ≡ Fits i
+      → (i ≡ j) × ((lineAt (b .lines) j .arrived .0 + copies .0 ≤ mostArrived) × (usedSlips b < slipRoom b))
   unfolding arrivalJudged
   arrival-fits copies j e =
-      let n : ℕ = lineAt (b .lines) j .arrived + copies in
+      let n : ℕ = lineAt (b .lines) j .arrived .0 + copies .0 in
       let p = let-pass (leb n mostArrived) _ _ i e in
       let q = let-pass (ltb (usedSlips b) (slipRoom b)) _ _ i (p .1) in
       let r = q .1 in
       (cc, (leb-true n mostArrived (p .0), ltb-true (usedSlips b) (slipRoom b) (q .0)))
 
-  goods-fits : (copies : ℕ) (f : Found) → goodsJudged b copies f ≡ Fits i
-      → (f ≡ At i) × ((lineAt (b .lines) i .arrived + copies ≤ mostArrived) × (usedSlips b < slipRoom b))
+  goods-fits : (copies : Copies) (f : Found) → goodsJudged b copies f ≡ Fits i
+      → (f ≡ At i) × ((lineAt (b .lines) i .arrived .0 + copies .0 ≤ mostArrived) × (usedSlips b < slipRoom b))
   unfolding goodsJudged
   goods-fits copies Nothing e = let z : _≡_ {A = ℕ} 0 1 = cc in absurd (omega arith)
   goods-fits copies (At j) e =
@@ -87,11 +88,11 @@ module _ (b : Lent) (i : ℕ) where
       let d = p .0 in
       (ap At (sym d), (rw d (p .1 .0), p .1 .1))
 
-  pub delivery-fits : (key : List ℕ) (copies : ℕ) (f : Found) → deliveryJudged b key copies f ≡ Fits i
-      → (f ≡ Nothing) × ((findLine b key ≡ At i) × ((lineAt (b .lines) i .arrived + copies ≤ mostArrived) × (usedSlips b < slipRoom b)))
+  pub delivery-fits : (key : List ℕ) (copies : Copies) (f : Found) → deliveryJudged b key copies f ≡ Fits i
+      → (f ≡ Nothing) × ((findLine b key ≡ At i) × ((lineAt (b .lines) i .arrived .0 + copies .0 ≤ mostArrived) × (usedSlips b < slipRoom b)))
   unfolding deliveryJudged slipJudged
   delivery-fits key copies (At j) e =
-      let p = let-pass (keyIs (b .lines) key (slipLineAt (b .slips) j) && eqb (slipCopiesAt (b .slips) j) copies) (Refuse SlipBooked) SlipDiffers i e in
+      let p = let-pass (keyIs (b .lines) key (slipLineAt (b .slips) j) && eqb (slipCopiesAt (b .slips) j .0) (copies .0)) (Refuse SlipBooked) SlipDiffers i e in
       let q = p .1 in
       let z : _≡_ {A = ℕ} 0 1 = cc in absurd (omega arith)
   delivery-fits key copies Nothing e = (refl, goods-fits copies (findLine b key) e)
@@ -119,14 +120,14 @@ module _ (b : Lent) (key : Key) (i : ℕ) (l : Stored) (h : Line → Line) (k : 
       (lineTold (putLine (b .lines) i l)) (usedLines b) 0 i f (put-here b i l k used bounded ∙ e) (put-other b i l k used bounded)
 
 -- an order is entered
-module _ (b : Lent) (key : Key) (copies : ℕ) (k : Kept b) (wide : length key ≡ keyWidth) (least : 1 ≤ copies) (most : copies ≤ mostCopies) where
+module _ (b : Lent) (key : Key) (copies : Copies) (k : Kept b) (wide : length key ≡ keyWidth) (least : 1 ≤ copies .0) (most : copies .0 ≤ mostCopies) where
   order-entered : findLine b key ≡ Nothing → usedLines b < lineRoom b
-      → Follows b (ordering key (record { copies = copies })) (moreLine b key (newLine copies))
+      → Follows b (ordering key (record { copies = copies .0 })) (moreLine b key (newLine copies))
   unfolding enter newLine lineOf reportOf
   order-entered e room =
       let bounded : Bounded (newLine copies) = record { least = least; most = most; sum = omega arith } in
       record {
-        allowed = order-passes b key (record { copies = copies }) e room;
+        allowed = order-passes b key (record { copies = copies .0 }) e room;
         tells = λ x. record {
           lines = add-lines b key (newLine copies) k room wide bounded x;
           slips = add-slips b key (newLine copies) k room wide bounded x;
@@ -140,7 +141,7 @@ module _ (b : Lent) (k : Kept b) (i : ℕ) (used : i < usedLines b) where
   bounds : Bounded (lineAt (b .lines) i)
   bounds = sound-bounded (b .lines) i (sound-so b (k .is-sound) .line-sound i used)
 
-  pub arrivals-bounded : (copies : ℕ) → lineAt (b .lines) i .arrived + copies ≤ mostArrived → Bounded (withArrivals copies (lineAt (b .lines) i))
+  pub arrivals-bounded : (copies : Copies) → lineAt (b .lines) i .arrived .0 + copies .0 ≤ mostArrived → Bounded (withArrivals copies (lineAt (b .lines) i))
   unfolding withArrivals
   arrivals-bounded copies h = record { least = bounds .least; most = bounds .most; sum = h }
 
@@ -150,7 +151,7 @@ module _ (b : Lent) (k : Kept b) (i : ℕ) (used : i < usedLines b) where
 
 -- the changed line is told as the told line changed
 module _ (lines : List ℕ) (i : ℕ) where
-  pub line-arrives : (copies : ℕ) → lineOf (keyAt lines i) (withArrivals copies (lineAt lines i)) ≡ arrive copies (lineTold lines i)
+  pub line-arrives : (copies : Copies) → lineOf (keyAt lines i) (withArrivals copies (lineAt lines i)) ≡ arrive (copies .0) (lineTold lines i)
   unfolding lineOf withArrivals arrive lineTold
   line-arrives copies = refl
 
@@ -160,9 +161,9 @@ module _ (lines : List ℕ) (i : ℕ) where
   line-reported m h e = rw e
 
 -- a delivery is entered
-module _ (b : Lent) (key slip : Key) (copies i : ℕ) (k : Kept b) (wide : length slip ≡ slipKeyWidth) (few : copies ≤ mostCopies) where
-  goods-entered : findSlip b slip ≡ Nothing → findLine b key ≡ At i → lineAt (b .lines) i .arrived + copies ≤ mostArrived → usedSlips b < slipRoom b
-      → Follows b (arriving key (record { slip = slip; copies = copies }))
+module _ (b : Lent) (key slip : Key) (copies : Copies) (i : ℕ) (k : Kept b) (wide : length slip ≡ slipKeyWidth) (few : copies .0 ≤ mostCopies) where
+  goods-entered : findSlip b slip ≡ Nothing → findLine b key ≡ At i → lineAt (b .lines) i .arrived .0 + copies .0 ≤ mostArrived → usedSlips b < slipRoom b
+      → Follows b (arriving key (record { slip = slip; copies = copies .0 }))
       (moreSlip (withLine b i (withArrivals copies (lineAt (b .lines) i))) slip i copies)
   unfolding enter usedLines usedSlips slipRoom
   goods-entered e f most room =
@@ -173,11 +174,11 @@ module _ (b : Lent) (key slip : Key) (copies i : ℕ) (k : Kept b) (wide : lengt
       let bounded = arrivals-bounded b k i used copies most in
       let kept = put-kept b i l k used bounded in
       record {
-        allowed = goods-passes b key (record { slip = slip; copies = copies }) i e f most room;
+        allowed = goods-passes b key (record { slip = slip; copies = copies .0 }) i e f most room;
         tells = λ x. record {
-          lines = (slip-lines c slip i copies kept room wide used (omega arith) ∙ line-changed b key i l (arrive copies) k f bounded (line-arrives (b .lines) i copies)) x;
+          lines = (slip-lines c slip i copies kept room wide used (omega arith) ∙ line-changed b key i l (arrive (copies .0)) k f bounded (line-arrives (b .lines) i copies)) x;
           slips = (slip-slips c slip i copies kept room wide used (omega arith)
-              ∙ ap₂ (λ (t : List Slip) (line : Key). t ++ (record { line = line; says = record { slip = slip; copies = copies } } ∷ []))
+              ∙ ap₂ (λ (t : List Slip) (line : Key). t ++ (record { line = line; says = record { slip = slip; copies = copies .0 } } ∷ []))
               (put-slips b i l k used bounded) (put-key (b .lines) i l i ∙ own)) x;
         };
         kept = slip-kept c slip i copies kept room wide used (omega arith);
@@ -214,7 +215,7 @@ module _ (s : List ℕ) (b : Lent) (i n : ℕ) (k : Kept b) where
   order-follows fit e =
       let p = fit-passed Order s b i e in
       let q = order-fits b i (findLine b (lineKey Order s)) (p .1) in
-      let ne = eqb-false (copiesIn Order s) 0 (p .0) in
+      let ne = eqb-false (copiesIn Order s .0) 0 (p .0) in
       let d = q .1 .1 in
       rw d (order-entered b (lineKey Order s) (copiesIn Order s) k (order-key s n fit) (omega arith) (order-copies s n fit) (q .0) (q .1 .0))
 

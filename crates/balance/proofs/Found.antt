@@ -81,11 +81,11 @@ module _ (b : Lent) (key : Key) where
   order-passes o e h = rw (no-line b key e, lines-told b, lt-leb (lineRoom b) (usedLines b) h)
 
   -- a delivery
-  pub goods-passes : (g : Goods) (i : ℕ) → findSlip b (g .slip) ≡ Nothing → findLine b key ≡ At i → lineAt (b .lines) i .arrived + g .copies ≤ mostArrived → usedSlips b < slipRoom b
+  pub goods-passes : (g : Goods) (i : ℕ) → findSlip b (g .slip) ≡ Nothing → findLine b key ≡ At i → lineAt (b .lines) i .arrived .0 + g .copies ≤ mostArrived → usedSlips b < slipRoom b
       → judge (roomsOf b) (told b) (goods key g) ≡ done
   unfolding judge tests firstOf given found roomsOf limit lineTold
   goods-passes g i e f most h =
-      rw (no-slip b (g .slip) e, line-found b key i f, le-ltb mostArrived (lineAt (b .lines) i .arrived + g .copies) most, slips-told b, lt-leb (slipRoom b) (usedSlips b) h)
+      rw (no-slip b (g .slip) e, line-found b key i f, le-ltb mostArrived (lineAt (b .lines) i .arrived .0 + g .copies) most, slips-told b, lt-leb (slipRoom b) (usedSlips b) h)
 
   -- a report
   pub report-passes : (m : Report) (i : ℕ) → findLine b key ≡ At i → judge (roomsOf b) (told b) (report key m) ≡ done

@@ -30,12 +30,12 @@ reportOf Dropped = some (record { hold = N })
 
 unfoldable pub lineTold : List ℕ → ℕ → Line
 lineTold lines i =
-    record { key = keyAt lines i; asked = record { copies = lineAt lines i .ordered }; arrived = lineAt lines i .arrived; last = reportOf (lineAt lines i .mark) }
+    record { key = keyAt lines i; asked = record { copies = lineAt lines i .ordered .0 }; arrived = lineAt lines i .arrived .0; last = reportOf (lineAt lines i .mark) }
 
 -- a stored slip has its line's index; here it names its line by key
 unfoldable pub slipTold : List ℕ → List ℕ → ℕ → Slip
 slipTold lines slips j =
-    record { line = keyAt lines (slipLineAt slips j); says = record { slip = slipKeyAt slips j; copies = slipCopiesAt slips j } }
+    record { line = keyAt lines (slipLineAt slips j); says = record { slip = slipKeyAt slips j; copies = slipCopiesAt slips j .0 } }
 
 unfoldable pub told : Lent → Book
 told b =
@@ -52,8 +52,8 @@ holdOf Dropped = N
 
 -- the record that bytes of a kind are fit to book as; a closing record never is
 unfoldable pub fitAs : Kind → List ℕ → Fit
-fitAs order s = ordering (lineKey order s) (record { copies = copiesIn order s })
-fitAs goods s = arriving (lineKey goods s) (record { slip = slipKey s; copies = copiesIn goods s })
+fitAs order s = ordering (lineKey order s) (record { copies = copiesIn order s .0 })
+fitAs goods s = arriving (lineKey goods s) (record { slip = slipKey s; copies = copiesIn goods s .0 })
 fitAs closing s = telling [] (record { hold = J })
 fitAs report s = telling (lineKey report s) (record { hold = holdOf (markIn s) })
 

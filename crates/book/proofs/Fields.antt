@@ -59,10 +59,10 @@ module _ (s : List ℕ) (n : ℕ) where
   unfolding slipKey layout all
   slip-key-width f = fields-length Goods s (omega (arith, f .wide)) (1 ∷ 2 ∷ 3 ∷ 4 ∷ 5 ∷ 6 ∷ 7 ∷ []) refl
 
-  pub order-copies : Fitting Order s n → copiesIn Order s ≤ mostCopies
+  pub order-copies : Fitting Order s n → copiesIn Order s .0 ≤ mostCopies
   unfolding copiesIn layout keeps fieldBytes
   order-copies f = digits-most (fieldBytes Order 9 s) (each-kept (layout Order) s 9 (f .kept))
 
-  pub goods-copies : Fitting Goods s n → copiesIn Goods s ≤ mostCopies
+  pub goods-copies : Fitting Goods s n → copiesIn Goods s .0 ≤ mostCopies
   unfolding copiesIn layout keeps fieldBytes
   goods-copies f = digits-most (fieldBytes Goods 11 s) (each-kept (layout Goods) s 11 (f .kept))

@@ -35,7 +35,7 @@ module _ (lines slips used : List ℕ) (h : sound (lent lines slips used) ≡ tr
 
 -- so does the line that is found, and its sum is within its bound
 module _ (b : Lent) (h : sound b ≡ true) (key : List ℕ) (i : ℕ) where
-  pub line-stands : findLine b key ≡ At i → (lineWidth * i + lineWidth ≤ length (b .lines)) × (lineAt (b .lines) i .arrived ≤ mostArrived)
+  pub line-stands : findLine b key ≡ At i → (lineWidth * i + lineWidth ≤ length (b .lines)) × (lineAt (b .lines) i .arrived .0 ≤ mostArrived)
   unfolding findLine
   line-stands e =
       let s = sound-so b h in

@@ -1,5 +1,5 @@
 -- What the book says of a record, by the tests that the code makes: one law for each outcome.
-use mathlib.Core.Path.{_≡_, _∙_, refl}
+use mathlib.Core.Path.{_≡_, _∙_, ap, sym, refl}
 use mathlib.Core.Bool.{Bool, true, false, _&&_}
 use mathlib.Core.List.{List}
 use Prim.Native.Nat.{ℕ, _+_, _/_, _≤_, _<_}
@@ -8,7 +8,8 @@ use lib.Dec.{eqb}
 use lib.ListN.{length, getD}
 use lib.Seq.{slice}
 use Rattle.rules.specs.Class.{allOf}
-use Rattle.rules.specs.Number.{number}
+use Rattle.rules.specs.Values.{copiesOf}
+use Rattle.rules.specs.declared.amount.Copies.{Copies}
 use Rattle.rules.specs.declared.class.Class.the-variants.{Blank}
 use Rattle.record.specs.Layout.{layout, total, startOf}
 use Rattle.record.specs.Values.{fieldBytes}
@@ -23,11 +24,11 @@ use Rattle.book.specs.declared.answer.Verdict.the-variants.{Refuse, Fits
 
 -- the quantity, and whether a field is blank, as the code takes them from their places
 module _ (s : List ℕ) {p : List ℕ} where
-  pub order-copies : {n : ℕ} → n ≡ number p → p ≡ slice 61 65 s → n ≡ copiesIn Order s
+  pub order-copies : {n : Copies} → n ≡ copiesOf p → p ≡ slice 61 65 s → n ≡ copiesIn Order s
   unfolding copiesIn fieldBytes startOf total layout
   order-copies e h = rw (e, h)
 
-  pub goods-copies : {n : ℕ} → n ≡ number p → p ≡ slice 75 79 s → n ≡ copiesIn Goods s
+  pub goods-copies : {n : Copies} → n ≡ copiesOf p → p ≡ slice 75 79 s → n ≡ copiesIn Goods s
   unfolding copiesIn fieldBytes startOf total layout
   goods-copies e h = rw (e, h)
 
@@ -47,9 +48,12 @@ module _ (s : List ℕ) {p : List ℕ} where
   unfolding noReference fieldBytes startOf total layout
   report-blank e h = rw (e, h)
 
--- what differs from 0 still does under another name
-pub some-copies : {n m : ℕ} → n ≡ m → (n ≡ 0 → ⊥) → m ≡ 0 → ⊥
-some-copies e h z = h (e ∙ z)
+-- what is 0, and what differs from 0, still is and does under another name
+pub none-copies : {n m : Copies} → n ≡ m → n .0 ≡ 0 → m .0 ≡ 0
+none-copies e z = ap (λ (x : Copies). x .0) (sym e) ∙ z
+
+pub some-copies : {n m : Copies} → n ≡ m → (n .0 ≡ 0 → ⊥) → m .0 ≡ 0 → ⊥
+some-copies e h z = h (none-copies (sym e) z)
 
 -- 13, 11, 12, then the book
 module _ (k : Kind) (s : List ℕ) (b : Lent) where
@@ -73,11 +77,11 @@ module _ (k : Kind) (s : List ℕ) (b : Lent) where
 
 -- an order: 11, 12, then the book
 module _ (s : List ℕ) (b : Lent) where
-  pub order-none : copiesIn Order s ≡ 0 → fitJudged Order s b ≡ Refuse NoCopies
+  pub order-none : copiesIn Order s .0 ≡ 0 → fitJudged Order s b ≡ Refuse NoCopies
   unfolding nothingToBook noCopies
   order-none e = fit-copies Order s b refl (eq-eqb _ _ e)
 
-  module _ (some : copiesIn Order s ≡ 0 → ⊥) where
+  module _ (some : copiesIn Order s .0 ≡ 0 → ⊥) where
     pub order-unnamed : noReference Order s ≡ true → fitJudged Order s b ≡ Refuse NoReference
     unfolding nothingToBook noCopies
     order-unnamed g = fit-reference Order s b refl (ne-eqb _ _ some) g
@@ -101,11 +105,11 @@ module _ (s : List ℕ) (b : Lent) where
 
 -- a delivery: 13, 11, 12, then the book
 module _ (s : List ℕ) (b : Lent) (some : nothingToBook Goods s ≡ false) where
-  pub goods-none : copiesIn Goods s ≡ 0 → fitJudged Goods s b ≡ Refuse NoCopies
+  pub goods-none : copiesIn Goods s .0 ≡ 0 → fitJudged Goods s b ≡ Refuse NoCopies
   unfolding noCopies
   goods-none e = fit-copies Goods s b some (eq-eqb _ _ e)
 
-  module _ (copies : copiesIn Goods s ≡ 0 → ⊥) where
+  module _ (copies : copiesIn Goods s .0 ≡ 0 → ⊥) where
     pub goods-unnamed : noReference Goods s ≡ true → fitJudged Goods s b ≡ Refuse NoReference
     unfolding noCopies
     goods-unnamed g = fit-reference Goods s b some (ne-eqb _ _ copies) g
@@ -148,26 +152,26 @@ module _ (s : List ℕ) (b : Lent) where
     report-fits i f = report-book ∙ rw f
 
 -- 17 or 18, by whether line key and quantity are the same
-module _ (b : Lent) (key : List ℕ) (copies j : ℕ) where
-  pub slip-same : keyIs (b .lines) key (slipLineAt (b .slips) j) && eqb (slipCopiesAt (b .slips) j) copies ≡ true → slipJudged b key copies j ≡ Refuse SlipBooked
+module _ (b : Lent) (key : List ℕ) (n : Copies) (j : ℕ) where
+  pub slip-same : keyIs (b .lines) key (slipLineAt (b .slips) j) && eqb (slipCopiesAt (b .slips) j .0) (n .0) ≡ true → slipJudged b key n j ≡ Refuse SlipBooked
   unfolding slipJudged
   slip-same e = rw e
 
-  pub slip-other : keyIs (b .lines) key (slipLineAt (b .slips) j) && eqb (slipCopiesAt (b .slips) j) copies ≡ false → slipJudged b key copies j ≡ Refuse SlipDiffers
+  pub slip-other : keyIs (b .lines) key (slipLineAt (b .slips) j) && eqb (slipCopiesAt (b .slips) j .0) (n .0) ≡ false → slipJudged b key n j ≡ Refuse SlipDiffers
   unfolding slipJudged
   slip-other e = rw e
 
 -- 21, 19
-module _ (b : Lent) (copies i : ℕ) where
-  pub arrival-many : mostArrived < lineAt (b .lines) i .arrived + copies → arrivalJudged b copies i ≡ Refuse TooManyArrived
+module _ (b : Lent) (n : Copies) (i : ℕ) where
+  pub arrival-many : mostArrived < lineAt (b .lines) i .arrived .0 + n .0 → arrivalJudged b n i ≡ Refuse TooManyArrived
   unfolding arrivalJudged
   arrival-many h = rw (lt-leb _ _ h)
 
-  module _ (h : lineAt (b .lines) i .arrived + copies ≤ mostArrived) where
-    pub arrival-fits : getD (b .used) 1 0 < length (b .slips) / slipWidth → arrivalJudged b copies i ≡ Fits i
+  module _ (h : lineAt (b .lines) i .arrived .0 + n .0 ≤ mostArrived) where
+    pub arrival-fits : getD (b .used) 1 0 < length (b .slips) / slipWidth → arrivalJudged b n i ≡ Fits i
     unfolding arrivalJudged usedSlips slipRoom
     arrival-fits u = rw (le-leb _ _ h, lt-ltb _ _ u)
 
-    pub arrival-full : length (b .slips) / slipWidth ≤ getD (b .used) 1 0 → arrivalJudged b copies i ≡ Refuse SlipsUsed
+    pub arrival-full : length (b .slips) / slipWidth ≤ getD (b .used) 1 0 → arrivalJudged b n i ≡ Refuse SlipsUsed
     unfolding arrivalJudged usedSlips slipRoom
     arrival-full u = rw (le-leb _ _ h, le-ltb _ _ u)

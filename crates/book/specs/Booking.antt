@@ -6,7 +6,8 @@ use lib.Dec.{eqb, leb, ltb}
 use lib.ListN.{length, getD, set}
 use Rattle.cells.specs.Bytes.{pick, bytes, same}
 use Rattle.rules.specs.Class.{allOf}
-use Rattle.rules.specs.Number.{number}
+use Rattle.rules.specs.Values.{copies, copiesOf}
+use Rattle.rules.specs.declared.amount.Copies.{Copies}
 use Rattle.rules.specs.declared.class.Class.the-variants.{Blank}
 use Rattle.record.specs.Layout.{kindOf}
 use Rattle.record.specs.Answers.{refusalNumber, refusalPlace}
@@ -86,11 +87,11 @@ unfoldable pub slipKey : List ℕ → List ℕ
 slipKey s = fieldsAt Goods slipFields s
 
 -- the quantity of an order or a delivery
-unfoldable pub copiesIn : Kind → List ℕ → ℕ
-copiesIn Order s = number (fieldBytes Order 9 s)
-copiesIn Goods s = number (fieldBytes Goods 11 s)
-copiesIn Closing s = 0
-copiesIn Report s = 0
+unfoldable pub copiesIn : Kind → List ℕ → Copies
+copiesIn Order s = copiesOf (fieldBytes Order 9 s)
+copiesIn Goods s = copiesOf (fieldBytes Goods 11 s)
+copiesIn Closing s = copies 0
+copiesIn Report s = copies 0
 
 -- 13: a closing record, or a goods record with a blank slip number
 unfoldable pub nothingToBook : Kind → List ℕ → Bool
@@ -101,8 +102,8 @@ nothingToBook Report s = false
 
 -- 11: quantity 0, order or goods
 unfoldable pub noCopies : Kind → List ℕ → Bool
-noCopies Order s = eqb (copiesIn Order s) 0
-noCopies Goods s = eqb (copiesIn Goods s) 0
+noCopies Order s = eqb (copiesIn Order s .0) 0
+noCopies Goods s = eqb (copiesIn Goods s .0) 0
 noCopies Closing s = false
 noCopies Report s = false
 
@@ -123,26 +124,26 @@ orderJudged b (At i) = Refuse LineExists
 orderJudged b Nothing = pick (ltb (usedLines b) (lineRoom b)) (Fits (usedLines b)) (Refuse LinesUsed)
 
 -- 17 or 18: the slip key is booked at j, with the same line key and quantity or with another
-unfoldable pub slipJudged : Lent → List ℕ → ℕ → ℕ → Verdict
-slipJudged b key copies j =
-    pick (keyIs (b .lines) key (slipLineAt (b .slips) j) && eqb (slipCopiesAt (b .slips) j) copies) (Refuse SlipBooked) (Refuse SlipDiffers)
+unfoldable pub slipJudged : Lent → List ℕ → Copies → ℕ → Verdict
+slipJudged b key n j =
+    pick (keyIs (b .lines) key (slipLineAt (b .slips) j) && eqb (slipCopiesAt (b .slips) j .0) (n .0)) (Refuse SlipBooked) (Refuse SlipDiffers)
 
 -- 21, 19 where the line stands at i
-unfoldable pub arrivalJudged : Lent → ℕ → ℕ → Verdict
-arrivalJudged b copies i =
-    pick (leb (lineAt (b .lines) i .arrived + copies) mostArrived)
+unfoldable pub arrivalJudged : Lent → Copies → ℕ → Verdict
+arrivalJudged b n i =
+    pick (leb (lineAt (b .lines) i .arrived .0 + n .0) mostArrived)
     (pick (ltb (usedSlips b) (slipRoom b)) (Fits i) (Refuse SlipsUsed))
     (Refuse TooManyArrived)
 
 -- 16, then 21 and 19
-unfoldable pub goodsJudged : Lent → ℕ → Found → Verdict
-goodsJudged b copies Nothing = Refuse NoLine
-goodsJudged b copies (At i) = arrivalJudged b copies i
+unfoldable pub goodsJudged : Lent → Copies → Found → Verdict
+goodsJudged b n Nothing = Refuse NoLine
+goodsJudged b n (At i) = arrivalJudged b n i
 
 -- 17 or 18, then the rest
-unfoldable pub deliveryJudged : Lent → List ℕ → ℕ → Found → Verdict
-deliveryJudged b key copies (At j) = slipJudged b key copies j
-deliveryJudged b key copies Nothing = goodsJudged b copies (findLine b key)
+unfoldable pub deliveryJudged : Lent → List ℕ → Copies → Found → Verdict
+deliveryJudged b key n (At j) = slipJudged b key n j
+deliveryJudged b key n Nothing = goodsJudged b n (findLine b key)
 
 -- 16
 unfoldable pub reportJudged : Found → Verdict
@@ -165,8 +166,8 @@ fitJudged k s b =
     (bookJudged k s b)))
 
 -- a new line: nothing has arrived, no mark
-unfoldable pub newLine : ℕ → Line
-newLine copies = record { ordered = copies; arrived = 0; mark = Unmarked }
+unfoldable pub newLine : Copies → Line
+newLine n = record { ordered = n; arrived = copies 0; mark = Unmarked }
 
 -- the line that a record of a kind makes of the line at i
 unfoldable pub lineAfter : Kind → List ℕ → Lent → ℕ → Line
@@ -197,7 +198,7 @@ abbrev pub outcome : Booked → Lent → Outcome
 outcome said b = record { said = said; lent = b }
 
 abbrev pub noFigures : Figures
-noFigures = record { ordered = 0; filled = 0; «still_open» = 0; «let_go» = 0; extra = 0 }
+noFigures = record { ordered = copies 0; filled = copies 0; «still_open» = copies 0; «let_go» = copies 0; extra = copies 0 }
 
 -- a refusal gives its number and place, zeros for all other values
 unfoldable pub refusedAs : Refused → Booked

@@ -23,7 +23,7 @@ roomy lines slips = record { lines = replicate (lines * lineWidth) 7; slips = re
 -- what the desk prints of a record: answer, ordered, filled, open, let go, extra
 abbrev pub printed : Booked → List ℕ
 printed b =
-    b .answer ∷ b .figures .ordered ∷ b .figures .filled ∷ b .figures .«still_open» ∷ b .figures .«let_go» ∷ b .figures .extra ∷ []
+    b .answer ∷ b .figures .ordered .0 ∷ b .figures .filled .0 ∷ b .figures .«still_open» .0 ∷ b .figures .«let_go» .0 ∷ b .figures .extra .0 ∷ []
 
 unfoldable pub desk : Lent → List (List ℕ) → List (List ℕ)
 desk b [] = []

@@ -6,6 +6,7 @@ use entry::line::Line;
 use record::answer::Refusal;
 use record::answer::refusal_number;
 use record::answer::refusal_place;
+use rules::amount::Copies;
 
 pub enum Refused {
     // The lent book is unsound, or a room is of wrong size.
@@ -88,11 +89,11 @@ pub fn refuse(r: Refused) -> Booked
         answer: refused_number(r),
         place: refused_place(r),
         figures: Figures {
-            ordered: 0,
-            filled: 0,
-            still_open: 0,
-            let_go: 0,
-            extra: 0,
+            ordered: Copies(0),
+            filled: Copies(0),
+            still_open: Copies(0),
+            let_go: Copies(0),
+            extra: Copies(0),
         },
     }
 }

@@ -25,9 +25,10 @@ use entry::stored::read_line;
 use entry::stored::slip_copies;
 use entry::stored::slip_line;
 use record::layout::Kind;
+use rules::amount::Copies;
+use rules::amount::copies_of;
 use rules::class::Class;
 use rules::class::all_of;
-use rules::number::number_of;
 
 // Where the fields that are judged start; each ends where the next one starts.
 const ORDER_REFERENCE: usize = 36;
@@ -59,7 +60,7 @@ pub fn judge_order(s: &[u8], lines: &[u8], slips: &[u8], used: &[usize; 2]) -> V
     requires { ⌜ (sound (lent (now lines) (now slips) (now used)) ≡ true) × (fixedWidth Kind.Order ≤ length (now s)) ⌝ }
     ensures { λ r. ⌜ r ≡ fitJudged Kind.Order (now (s .entry)) (lent (now (lines .entry)) (now (slips .entry)) (now (used .entry))) ⌝ }
 {
-    if number_of(part(s, ORDER_QUANTITY, ORDER_MEASURE)) == 0 {
+    if copies_of(part(s, ORDER_QUANTITY, ORDER_MEASURE)).0 == 0 {
         return Verdict::Refuse(Refused::NoCopies);
     }
     if all_of(Class::Blank, part(s, ORDER_REFERENCE, ORDER_ARTICLE)) {
@@ -82,7 +83,7 @@ pub fn judge_order(s: &[u8], lines: &[u8], slips: &[u8], used: &[usize; 2]) -> V
 // 17 or 18, where the slip key is booked at j.
 fn judge_slip(
     key: &[u8],
-    copies: u64,
+    copies: Copies,
     lines: &[u8],
     slips: &[u8],
     used: &[usize; 2],
@@ -91,19 +92,19 @@ fn judge_slip(
     requires { ⌜ (slipWidth * j + slipWidth ≤ length (now slips)) × (lineWidth * slipLineAt (now slips) j + lineWidth ≤ length (now lines)) ⌝ }
     ensures { λ r. ⌜ r ≡ slipJudged (lent (now (lines .entry)) (now (slips .entry)) (now (used .entry))) (now (key .entry)) copies j ⌝ }
 {
-    if key_is(lines, slip_line(slips, j), key) & (slip_copies(slips, j) == copies) {
+    if key_is(lines, slip_line(slips, j), key) & (slip_copies(slips, j).0 == copies.0) {
         return Verdict::Refuse(Refused::SlipBooked);
     }
     Verdict::Refuse(Refused::SlipDiffers)
 }
 
 // 21, 19, where the line stands at i.
-fn judge_arrival(copies: u64, lines: &[u8], slips: &[u8], used: &[usize; 2], i: usize) -> Verdict
-    requires { ⌜ (copies ≤ mostCopies) × (lineWidth * i + lineWidth ≤ length (now lines)) × (lineAt (now lines) i .arrived ≤ mostArrived) ⌝ }
+fn judge_arrival(copies: Copies, lines: &[u8], slips: &[u8], used: &[usize; 2], i: usize) -> Verdict
+    requires { ⌜ (copies .0 ≤ mostCopies) × (lineWidth * i + lineWidth ≤ length (now lines)) × (lineAt (now lines) i .arrived .0 ≤ mostArrived) ⌝ }
     ensures { λ r. ⌜ r ≡ arrivalJudged (lent (now (lines .entry)) (now (slips .entry)) (now (used .entry))) copies i ⌝ }
 {
     let l = read_line(lines, i);
-    if MOST_ARRIVED < l.arrived + copies {
+    if MOST_ARRIVED < l.arrived.0 + copies.0 {
         return Verdict::Refuse(Refused::TooManyArrived);
     }
     if used[1] < slips.len() / SLIP_WIDTH {
@@ -114,14 +115,14 @@ fn judge_arrival(copies: u64, lines: &[u8], slips: &[u8], used: &[usize; 2], i: 
 
 // 13, 11, 12, 17 or 18, 16, 21, 19.
 pub fn judge_goods(s: &[u8], lines: &[u8], slips: &[u8], used: &[usize; 2]) -> Verdict
-    requires { ⌜ (sound (lent (now lines) (now slips) (now used)) ≡ true) × (fixedWidth Kind.Goods ≤ length (now s)) × (copiesIn Kind.Goods (now s) ≤ mostCopies) ⌝ }
+    requires { ⌜ (sound (lent (now lines) (now slips) (now used)) ≡ true) × (fixedWidth Kind.Goods ≤ length (now s)) × (copiesIn Kind.Goods (now s) .0 ≤ mostCopies) ⌝ }
     ensures { λ r. ⌜ r ≡ fitJudged Kind.Goods (now (s .entry)) (lent (now (lines .entry)) (now (slips .entry)) (now (used .entry))) ⌝ }
 {
     if all_of(Class::Blank, part(s, SLIP, POSITION)) {
         return Verdict::Refuse(Refused::NothingToBook);
     }
-    let copies = number_of(part(s, QUANTITY, PRICE));
-    if copies == 0 {
+    let copies = copies_of(part(s, QUANTITY, PRICE));
+    if copies.0 == 0 {
         return Verdict::Refuse(Refused::NoCopies);
     }
     if all_of(Class::Blank, part(s, REFERENCE, ARTICLE)) {

@@ -30,7 +30,7 @@ module _ (s lines slips used : List ℕ) (h : sound (lent lines slips used) ≡ 
       (omega (arith, f .next, f .room, b .lines-room), omega (arith, f .room, b .lines-most))
 
   pub goods-room : fitJudged Goods s (lent lines slips used) ≡ Fits i
-      → (lineWidth * i + lineWidth ≤ length lines) × (slipWidth * getD used 1 0 + slipWidth ≤ length slips) × (getD used 1 0 < 1024) × (lineAt lines i .arrived + copiesIn Goods s ≤ mostArrived)
+      → (lineWidth * i + lineWidth ≤ length lines) × (slipWidth * getD used 1 0 + slipWidth ≤ length slips) × (getD used 1 0 < 1024) × (lineAt lines i .arrived .0 + copiesIn Goods s .0 ≤ mostArrived)
   unfolding usedSlips
   goods-room e =
       let f = goods-fits s (lent lines slips used) i e in

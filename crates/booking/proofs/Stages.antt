@@ -101,7 +101,7 @@ pub record GoodsFits (s : List ℕ) (b : Lent) (i : ℕ) : Type 0 where
   pub found : findLine b (lineKey Goods s) ≡ At i
   pub fresh : findSlip b (slipKey s) ≡ Nothing
   pub room : usedSlips b < slipRoom b
-  pub within : lineAt (b .lines) i .arrived + copiesIn Goods s ≤ mostArrived
+  pub within : lineAt (b .lines) i .arrived .0 + copiesIn Goods s .0 ≤ mostArrived
 
 pub goods-fits : (s : List ℕ) (b : Lent) (i : ℕ) → fitJudged Goods s b ≡ Fits i → GoodsFits s b i
 unfolding bookJudged deliveryJudged goodsJudged arrivalJudged slipJudged
@@ -110,7 +110,7 @@ goods-fits s b i e = go (findSlip b (slipKey s)) refl (judged-fits Goods s b i e
     in-line : findSlip b (slipKey s) ≡ Nothing → (f : Found) → findLine b (lineKey Goods s) ≡ f → goodsJudged b (copiesIn Goods s) f ≡ Fits i → GoodsFits s b i
     in-line n Nothing g q = let z : _≡_ {A = ℕ} 0 1 = cc in absurd (omega arith)
     in-line n (At j) g q =
-        let p = passed (leb (lineAt (b .lines) j .arrived + copiesIn Goods s) mostArrived) _ _ i q in
+        let p = passed (leb (lineAt (b .lines) j .arrived .0 + copiesIn Goods s .0) mostArrived) _ _ i q in
         let r = passed (ltb (usedSlips b) (slipRoom b)) _ (Fits j) i (p .1) in
         let same : Fits j ≡ Fits i = r .1 in
         let at : j ≡ i = cc in
@@ -118,11 +118,11 @@ goods-fits s b i e = go (findSlip b (slipKey s)) refl (judged-fits Goods s b i e
           found = g ∙ ap At at;
           fresh = n;
           room = ltb-true _ _ (r .0);
-          within = leb-true (lineAt (b .lines) i .arrived + copiesIn Goods s) mostArrived (ap (λ (m : ℕ). leb (lineAt (b .lines) m .arrived + copiesIn Goods s) mostArrived) (sym at) ∙ p .0);
+          within = leb-true (lineAt (b .lines) i .arrived .0 + copiesIn Goods s .0) mostArrived (ap (λ (m : ℕ). leb (lineAt (b .lines) m .arrived .0 + copiesIn Goods s .0) mostArrived) (sym at) ∙ p .0);
         }
 
     go : (f : Found) → findSlip b (slipKey s) ≡ f → deliveryJudged b (lineKey Goods s) (copiesIn Goods s) f ≡ Fits i → GoodsFits s b i
-    go (At j) g q = absurd (never (keyIs (b .lines) (lineKey Goods s) (slipLineAt (b .slips) j) && eqb (slipCopiesAt (b .slips) j) (copiesIn Goods s)) SlipBooked SlipDiffers i q)
+    go (At j) g q = absurd (never (keyIs (b .lines) (lineKey Goods s) (slipLineAt (b .slips) j) && eqb (slipCopiesAt (b .slips) j .0) (copiesIn Goods s .0)) SlipBooked SlipDiffers i q)
     go Nothing g q = in-line g (findLine b (lineKey Goods s)) refl q
 
 -- a report fits at its line

@@ -18,7 +18,8 @@ use entry::stored::write_line;
 use entry::stored::write_new_line;
 use entry::stored::write_slip;
 use record::layout::Kind;
-use rules::number::number_of;
+use rules::amount::Copies;
+use rules::amount::copies_of;
 
 // Where the fields that are entered start, and end.
 const ORDER_QUANTITY: usize = 61;
@@ -34,12 +35,12 @@ const HOLD: usize = 66;
 const LETTER_J: u8 = 74;
 
 // A new line: nothing has arrived, no mark.
-fn new_line(copies: u64) -> Line
+fn new_line(copies: Copies) -> Line
     ensures { λ r. ⌜ r ≡ newLine copies ⌝ }
 {
     Line {
         ordered: copies,
-        arrived: 0,
+        arrived: Copies(0),
         mark: Mark::Unmarked,
     }
 }
@@ -66,7 +67,7 @@ pub fn enter_order(
     requires { ⌜ (fixedWidth Kind.Order ≤ length (now s)) × (lineWidth * i + lineWidth ≤ length (now lines)) × (getD (now used) 0 0 < mostLines) ⌝ }
     ensures { λ r. ⌜ outcome r (lent (now (lines .exit)) (now (slips .entry)) (now (used .exit))) ≡ enteredAs Kind.Order (now (s .entry)) (lent (now (lines .entry)) (now (slips .entry)) (now (used .entry))) i ⌝ }
 {
-    let l = new_line(number_of(part(s, ORDER_QUANTITY, ORDER_MEASURE)));
+    let l = new_line(copies_of(part(s, ORDER_QUANTITY, ORDER_MEASURE)));
     let key = order_key(s);
     write_new_line(lines, i, &key, l);
     used[0] = used[0] + 1;
@@ -81,10 +82,10 @@ pub fn enter_goods(
     used: &mut [usize; 2],
     i: usize,
 ) -> Booked
-    requires { ⌜ (fixedWidth Kind.Goods ≤ length (now s)) × (lineWidth * i + lineWidth ≤ length (now lines)) × (slipWidth * getD (now used) 1 0 + slipWidth ≤ length (now slips)) × (getD (now used) 1 0 < mostSlips) × (lineAt (now lines) i .arrived + copiesIn Kind.Goods (now s) ≤ mostArrived) ⌝ }
+    requires { ⌜ (fixedWidth Kind.Goods ≤ length (now s)) × (lineWidth * i + lineWidth ≤ length (now lines)) × (slipWidth * getD (now used) 1 0 + slipWidth ≤ length (now slips)) × (getD (now used) 1 0 < mostSlips) × (lineAt (now lines) i .arrived .0 + copiesIn Kind.Goods (now s) .0 ≤ mostArrived) ⌝ }
     ensures { λ r. ⌜ outcome r (lent (now (lines .exit)) (now (slips .exit)) (now (used .exit))) ≡ enteredAs Kind.Goods (now (s .entry)) (lent (now (lines .entry)) (now (slips .entry)) (now (used .entry))) i ⌝ }
 {
-    let copies = number_of(part(s, QUANTITY, PRICE));
+    let copies = copies_of(part(s, QUANTITY, PRICE));
     let l = read_line(lines, i).with_arrivals(copies);
     write_line(lines, i, l);
     let j = used[1];

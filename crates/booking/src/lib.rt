@@ -40,7 +40,7 @@ fn book_order(s: &[u8], lines: &mut [u8], slips: &[u8], used: &mut [usize; 2]) -
 
 // A goods record that is read, booked into a sound book.
 fn book_goods(s: &[u8], lines: &mut [u8], slips: &mut [u8], used: &mut [usize; 2]) -> Booked
-    requires { ⌜ (sound (lent (now lines) (now slips) (now used)) ≡ true) × (fixedWidth Kind.Goods ≤ length (now s)) × (copiesIn Kind.Goods (now s) ≤ mostCopies) ⌝ }
+    requires { ⌜ (sound (lent (now lines) (now slips) (now used)) ≡ true) × (fixedWidth Kind.Goods ≤ length (now s)) × (copiesIn Kind.Goods (now s) .0 ≤ mostCopies) ⌝ }
     ensures { λ r. ⌜ outcome r (lent (now (lines .exit)) (now (slips .exit)) (now (used .exit))) ≡ bookAs Kind.Goods (now (s .entry)) (lent (now (lines .entry)) (now (slips .entry)) (now (used .entry))) ⌝ }
 {
     match judge_goods(s, lines, slips, used) {

@@ -63,11 +63,11 @@ fn letter(b: u8) {
 }
 
 fn show_figures(f: Figures) {
-    next(f.ordered);
-    next(f.filled);
-    next(f.still_open);
-    next(f.let_go);
-    next(f.extra);
+    next(f.ordered.0);
+    next(f.filled.0);
+    next(f.still_open.0);
+    next(f.let_go.0);
+    next(f.extra.0);
 }
 
 // One more, as long as there is a number.

@@ -11,6 +11,8 @@ use lib.Seq.{sets, length-sets}
 use Rattle.cells.specs.Little.{leAt, leBytes}
 use Rattle.cells.proofs.Numbers.{le-back}
 use Rattle.cells.proofs.Stores.{sets-before, sets-after, sets-in, sets-part, sets-aside, le-in, part-ext, number-ext, front-ext}
+use Rattle.rules.specs.Values.{copies}
+use Rattle.rules.specs.declared.amount.Copies.{Copies}
 use Rattle.entry.specs.Line.{markOf, markByte}
 use Rattle.entry.specs.Stored.{lineWidth, keyWidth, markAt, arrivedAt, slipWidth, slipKeyWidth, slipCopiesPlace, lineAt, lineBytes, putLine, addLine, keyAt, slipKeyAt, slipLineAt, slipCopiesAt, addSlip}
 use Rattle.entry.specs.declared.line.Mark.{Mark}
@@ -33,8 +35,8 @@ SameIn w j s t = (k : ℕ) → k < w → getD s (w * j + k) 0 ≡ getD t (w * j 
 line-ext : (s t : List ℕ) (j : ℕ) → SameIn lineWidth j s t → lineAt s j ≡ lineAt t j
 unfolding lineAt
 line-ext s t j b = λ x. record {
-  ordered = number-ext s t lineWidth j b keyWidth 2 (omega arith) x;
-  arrived = number-ext s t lineWidth j b arrivedAt 4 (omega arith) x;
+  ordered = copies (number-ext s t lineWidth j b keyWidth 2 (omega arith) x);
+  arrived = copies (number-ext s t lineWidth j b arrivedAt 4 (omega arith) x);
   mark = ap markOf (b markAt (omega arith)) x;
 }
 
@@ -56,13 +58,13 @@ module _ (ls : List ℕ) (i : ℕ) (l : Line) where
       let e : lineWidth * i + markAt ≡ lineWidth * i + keyWidth + 2 = omega arith in
       rw e (sets-in ls (lineWidth * i + keyWidth) (lineBytes l) 2 (omega arith) (omega arith))
 
-  pub put-back : lineWidth * i + lineWidth ≤ length ls → l .ordered < 65536 → l .arrived < 4294967296 → lineAt (putLine ls i l) i ≡ l
+  pub put-back : lineWidth * i + lineWidth ≤ length ls → l .ordered .0 < 65536 → l .arrived .0 < 4294967296 → lineAt (putLine ls i l) i ≡ l
   unfolding lineAt putLine lineBytes leBytes leAt
   put-back h a b =
       let stored = le-in ls (lineWidth * i + keyWidth) (lineBytes l) (omega arith) in
       λ x. record {
-        ordered = (stored 0 2 (lineWidth * i + keyWidth) (omega arith) (omega arith) ∙ le-back 2 (l .ordered) a) x;
-        arrived = (stored 3 4 (lineWidth * i + arrivedAt) (omega arith) (omega arith) ∙ le-back 4 (l .arrived) b) x;
+        ordered = copies ((stored 0 2 (lineWidth * i + keyWidth) (omega arith) (omega arith) ∙ le-back 2 (l .ordered .0) a) x);
+        arrived = copies ((stored 3 4 (lineWidth * i + arrivedAt) (omega arith) (omega arith) ∙ le-back 4 (l .arrived .0) b) x);
         mark = (ap markOf (put-mark h) ∙ mark-back (l .mark)) x;
       }
 
@@ -97,7 +99,7 @@ module _ (ls : List ℕ) (i : ℕ) (key : List ℕ) (l : Line) where
         rw (add-zero (lineWidth * i)) at (sets-aside ls lineWidth i 0 (key ++ lineBytes l) (omega (arith, line-width)) j k ne n)
 
     -- the line and its key are read back
-    pub add-back : lineWidth * i + lineWidth ≤ length ls → l .ordered < 65536 → l .arrived < 4294967296 → lineAt (addLine ls i key l) i ≡ l
+    pub add-back : lineWidth * i + lineWidth ≤ length ls → l .ordered .0 < 65536 → l .arrived .0 < 4294967296 → lineAt (addLine ls i key l) i ≡ l
     add-back h a b =
         let room : lineWidth * i + lineWidth ≤ length (sets ls (lineWidth * i) key) = rw length-sets h in
         rw (← add-line ls i key l wide) (put-back (sets ls (lineWidth * i) key) i l room a b)
@@ -115,52 +117,52 @@ module _ (ls : List ℕ) (i : ℕ) (key : List ℕ) (l : Line) where
     add-key-apart j ne = front-ext (addLine ls i key l) ls lineWidth j (add-bytes j ne) keyWidth (omega arith) add-length
 
 -- a slip written at i
-module _ (ss : List ℕ) (i : ℕ) (key : List ℕ) (line copies : ℕ) where
-  pub slip-length : length (addSlip ss i key line copies) ≡ length ss
+module _ (ss : List ℕ) (i : ℕ) (key : List ℕ) (line : ℕ) (n : Copies) where
+  pub slip-length : length (addSlip ss i key line n) ≡ length ss
   unfolding addSlip
-  slip-length = length-sets ss (slipWidth * i) (key ++ (leBytes 2 line ++ leBytes 2 copies))
+  slip-length = length-sets ss (slipWidth * i) (key ++ (leBytes 2 line ++ leBytes 2 (n .0)))
 
   module _ (wide : length key ≡ slipKeyWidth) where
-    slip-width : length (key ++ (leBytes 2 line ++ leBytes 2 copies)) ≡ slipWidth
+    slip-width : length (key ++ (leBytes 2 line ++ leBytes 2 (n .0))) ≡ slipWidth
     unfolding leBytes
-    slip-width = rw (length-append key (leBytes 2 line ++ leBytes 2 copies), wide)
+    slip-width = rw (length-append key (leBytes 2 line ++ leBytes 2 (n .0)), wide)
 
     -- no byte of another slip changes
-    slip-bytes : (j : ℕ) → j ≢ i → SameIn slipWidth j (addSlip ss i key line copies) ss
+    slip-bytes : (j : ℕ) → j ≢ i → SameIn slipWidth j (addSlip ss i key line n) ss
     unfolding addSlip
-    slip-bytes j ne k n =
-        rw (add-zero (slipWidth * i)) at (sets-aside ss slipWidth i 0 (key ++ (leBytes 2 line ++ leBytes 2 copies)) (omega (arith, slip-width)) j k ne n)
+    slip-bytes j ne k m =
+        rw (add-zero (slipWidth * i)) at (sets-aside ss slipWidth i 0 (key ++ (leBytes 2 line ++ leBytes 2 (n .0))) (omega (arith, slip-width)) j k ne m)
 
     -- the key, the line's index and the quantity are read back
-    pub slip-key : slipWidth * i + slipWidth ≤ length ss → slipKeyAt (addSlip ss i key line copies) i ≡ key
+    pub slip-key : slipWidth * i + slipWidth ≤ length ss → slipKeyAt (addSlip ss i key line n) i ≡ key
     unfolding slipKeyAt addSlip
-    slip-key h = sets-part ss (slipWidth * i) key (leBytes 2 line ++ leBytes 2 copies) slipKeyWidth wide (rw slip-width h)
+    slip-key h = sets-part ss (slipWidth * i) key (leBytes 2 line ++ leBytes 2 (n .0)) slipKeyWidth wide (rw slip-width h)
 
     slip-number : slipWidth * i + slipWidth ≤ length ss → (k w a : ℕ) → a ≡ slipWidth * i + slipKeyWidth + k → k + w ≤ 4
-        → leAt (addSlip ss i key line copies) a w ≡ leAt (leBytes 2 line ++ leBytes 2 copies) k w
+        → leAt (addSlip ss i key line n) a w ≡ leAt (leBytes 2 line ++ leBytes 2 (n .0)) k w
     unfolding leBytes
-    slip-number h k w a e n =
+    slip-number h k w a e m =
         let room : slipWidth * i + slipWidth ≤ length (sets ss (slipWidth * i) key) = rw length-sets h in
-        rw (← add-slip ss i key line copies wide)
-        (le-in (sets ss (slipWidth * i) key) (slipWidth * i + slipKeyWidth) (leBytes 2 line ++ leBytes 2 copies) (omega arith) k w a e n)
+        rw (← add-slip ss i key line n wide)
+        (le-in (sets ss (slipWidth * i) key) (slipWidth * i + slipKeyWidth) (leBytes 2 line ++ leBytes 2 (n .0)) (omega arith) k w a e m)
 
-    pub slip-line : slipWidth * i + slipWidth ≤ length ss → line < 65536 → slipLineAt (addSlip ss i key line copies) i ≡ line
+    pub slip-line : slipWidth * i + slipWidth ≤ length ss → line < 65536 → slipLineAt (addSlip ss i key line n) i ≡ line
     unfolding slipLineAt leBytes leAt
     slip-line h a = slip-number h 0 2 (slipWidth * i + slipKeyWidth) (omega arith) (omega arith) ∙ le-back 2 line a
 
-    pub slip-copies : slipWidth * i + slipWidth ≤ length ss → copies < 65536 → slipCopiesAt (addSlip ss i key line copies) i ≡ copies
+    pub slip-copies : slipWidth * i + slipWidth ≤ length ss → n .0 < 65536 → slipCopiesAt (addSlip ss i key line n) i ≡ n
     unfolding slipCopiesAt leBytes leAt
-    slip-copies h a = slip-number h 2 2 (slipWidth * i + slipCopiesPlace) (omega arith) (omega arith) ∙ le-back 2 copies a
+    slip-copies h a = λ x. copies ((slip-number h 2 2 (slipWidth * i + slipCopiesPlace) (omega arith) (omega arith) ∙ le-back 2 (n .0) a) x)
 
     -- every other slip stays
-    pub slip-key-apart : (j : ℕ) → j ≢ i → slipKeyAt (addSlip ss i key line copies) j ≡ slipKeyAt ss j
+    pub slip-key-apart : (j : ℕ) → j ≢ i → slipKeyAt (addSlip ss i key line n) j ≡ slipKeyAt ss j
     unfolding slipKeyAt
-    slip-key-apart j ne = front-ext (addSlip ss i key line copies) ss slipWidth j (slip-bytes j ne) slipKeyWidth (omega arith) slip-length
+    slip-key-apart j ne = front-ext (addSlip ss i key line n) ss slipWidth j (slip-bytes j ne) slipKeyWidth (omega arith) slip-length
 
-    pub slip-line-apart : (j : ℕ) → j ≢ i → slipLineAt (addSlip ss i key line copies) j ≡ slipLineAt ss j
+    pub slip-line-apart : (j : ℕ) → j ≢ i → slipLineAt (addSlip ss i key line n) j ≡ slipLineAt ss j
     unfolding slipLineAt
-    slip-line-apart j ne = number-ext (addSlip ss i key line copies) ss slipWidth j (slip-bytes j ne) slipKeyWidth 2 (omega arith)
+    slip-line-apart j ne = number-ext (addSlip ss i key line n) ss slipWidth j (slip-bytes j ne) slipKeyWidth 2 (omega arith)
 
-    pub slip-copies-apart : (j : ℕ) → j ≢ i → slipCopiesAt (addSlip ss i key line copies) j ≡ slipCopiesAt ss j
+    pub slip-copies-apart : (j : ℕ) → j ≢ i → slipCopiesAt (addSlip ss i key line n) j ≡ slipCopiesAt ss j
     unfolding slipCopiesAt
-    slip-copies-apart j ne = number-ext (addSlip ss i key line copies) ss slipWidth j (slip-bytes j ne) slipCopiesPlace 2 (omega arith)
+    slip-copies-apart j ne = λ x. copies (number-ext (addSlip ss i key line n) ss slipWidth j (slip-bytes j ne) slipCopiesPlace 2 (omega arith) x)

@@ -22,9 +22,9 @@ use Rattle.entry.proofs.Kept.{SameIn, put-mark, put-back, put-bytes, ad
 
 -- Q and A are within their bounds
 pub record Bounded (l : Line) : Type 0 where
-  pub least : 1 ≤ l .ordered
-  pub most : l .ordered ≤ mostCopies
-  pub sum : l .arrived ≤ mostArrived
+  pub least : 1 ≤ l .ordered .0
+  pub most : l .ordered .0 ≤ mostCopies
+  pub sum : l .arrived .0 ≤ mostArrived
 
 mark-small : (m : Mark) → leb (markByte m) 2 ≡ true
 unfolding markByte
@@ -57,8 +57,8 @@ module _ (ls : List ℕ) (i : ℕ) (l : Line) where
   unfolding lineSound lineAt
   put-sound h b =
       let e = put-back ls i l h (omega arith) (omega arith) in
-      rw (ap (λ (x : Line). x .ordered) e, ap (λ (x : Line). x .arrived) e, put-mark ls i l h)
-      (rw (le-leb 1 (l .ordered) (b .least), le-leb (l .ordered) mostCopies (b .most), mark-small (l .mark), le-leb (l .arrived) mostArrived (b .sum)))
+      rw (ap (λ (x : Line). x .ordered .0) e, ap (λ (x : Line). x .arrived .0) e, put-mark ls i l h)
+      (rw (le-leb 1 (l .ordered .0) (b .least), le-leb (l .ordered .0) mostCopies (b .most), mark-small (l .mark), le-leb (l .arrived .0) mostArrived (b .sum)))
 
   pub put-sound-apart : (j : ℕ) → j ≢ i → lineSound (putLine ls i l) j ≡ lineSound ls j
   put-sound-apart j ne = sound-ext (putLine ls i l) ls j (put-bytes ls i l j ne)

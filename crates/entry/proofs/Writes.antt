@@ -7,13 +7,14 @@ use lib.ListN.{length, set}
 use lib.Seq.{sets}
 use Rattle.cells.specs.Little.{leBytes}
 use Rattle.cells.proofs.Stores.{sets-append}
+use Rattle.rules.specs.declared.amount.Copies.{Copies}
 use Rattle.entry.specs.Line.{markByte}
 use Rattle.entry.specs.Stored.{lineWidth, keyWidth, markAt, arrivedAt, slipWidth, slipKeyWidth, slipCopiesPlace, lineBytes, putLine, addLine, addSlip}
 use Rattle.entry.specs.declared.line.Line.{Line}
 
 -- Q, the mark and A
 pub put-line : (ls : List ℕ) (i : ℕ) (l : Line)
-    → sets (set (sets ls (lineWidth * i + keyWidth) (leBytes 2 (l .ordered))) (lineWidth * i + markAt) (markByte (l .mark))) (lineWidth * i + arrivedAt) (leBytes 4 (l .arrived)) ≡ putLine ls i l
+    → sets (set (sets ls (lineWidth * i + keyWidth) (leBytes 2 (l .ordered .0))) (lineWidth * i + markAt) (markByte (l .mark))) (lineWidth * i + arrivedAt) (leBytes 4 (l .arrived .0)) ≡ putLine ls i l
 unfolding putLine lineBytes leBytes
 put-line ls i l =
     let m : lineWidth * i + markAt ≡ suc (suc (lineWidth * i + keyWidth)) = omega arith in
@@ -26,14 +27,14 @@ unfolding putLine addLine
 add-line ls i key l e = rw (sets-append ls (lineWidth * i) key (lineBytes l), e)
 
 -- the key, and after it the index and the quantity
-pub add-slip : (ss : List ℕ) (j : ℕ) (key : List ℕ) (line copies : ℕ) → length key ≡ slipKeyWidth
-    → sets (sets ss (slipWidth * j) key) (slipWidth * j + slipKeyWidth) (leBytes 2 line ++ leBytes 2 copies) ≡ addSlip ss j key line copies
+pub add-slip : (ss : List ℕ) (j : ℕ) (key : List ℕ) (line : ℕ) (n : Copies) → length key ≡ slipKeyWidth
+    → sets (sets ss (slipWidth * j) key) (slipWidth * j + slipKeyWidth) (leBytes 2 line ++ leBytes 2 (n .0)) ≡ addSlip ss j key line n
 unfolding addSlip
-add-slip ss j key line copies e = rw (sets-append ss (slipWidth * j) key (leBytes 2 line ++ leBytes 2 copies), e)
+add-slip ss j key line n e = rw (sets-append ss (slipWidth * j) key (leBytes 2 line ++ leBytes 2 (n .0)), e)
 
-pub put-slip : (ss : List ℕ) (j : ℕ) (key : List ℕ) (line copies : ℕ) → length key ≡ slipKeyWidth
-    → sets (sets (sets ss (slipWidth * j) key) (slipWidth * j + slipKeyWidth) (leBytes 2 line)) (slipWidth * j + slipCopiesPlace) (leBytes 2 copies) ≡ addSlip ss j key line copies
+pub put-slip : (ss : List ℕ) (j : ℕ) (key : List ℕ) (line : ℕ) (n : Copies) → length key ≡ slipKeyWidth
+    → sets (sets (sets ss (slipWidth * j) key) (slipWidth * j + slipKeyWidth) (leBytes 2 line)) (slipWidth * j + slipCopiesPlace) (leBytes 2 (n .0)) ≡ addSlip ss j key line n
 unfolding leBytes
-put-slip ss j key line copies e =
+put-slip ss j key line n e =
     let p : slipWidth * j + slipCopiesPlace ≡ suc (suc (slipWidth * j + slipKeyWidth)) = omega arith in
-    rw p (add-slip ss j key line copies e)
+    rw p (add-slip ss j key line n e)

@@ -2,6 +2,8 @@
 use Prim.Native.Nat.{ℕ, _+_, _-_, min}
 use lib.Dec.{eqb}
 use Rattle.cells.specs.Bytes.{pick}
+use Rattle.rules.specs.Values.{copies}
+use Rattle.rules.specs.declared.amount.Copies.{Copies}
 use Rattle.entry.specs.declared.line.Mark.{Mark}
 use Rattle.entry.specs.declared.line.Mark.the-variants.{Unmarked, Held, Dropped}
 use Rattle.entry.specs.declared.line.Line.{Line}
@@ -20,29 +22,33 @@ markByte Dropped = 2
 unfoldable pub withMark : Mark → Line → Line
 withMark m l = record { ordered = l .ordered; arrived = l .arrived; mark = m }
 
-unfoldable pub withArrivals : ℕ → Line → Line
-withArrivals n l = record { ordered = l .ordered; arrived = l .arrived + n; mark = l .mark }
+unfoldable pub withArrivals : Copies → Line → Line
+withArrivals n l = record { ordered = l .ordered; arrived = copies (l .arrived .0 + n .0); mark = l .mark }
 
 -- Q minus filled is let go where the last mark is N, otherwise open
-unfoldable pub openOf : Mark → ℕ → ℕ
+unfoldable pub openOf : Mark → Copies → Copies
 openOf Unmarked n = n
 openOf Held n = n
-openOf Dropped n = 0
+openOf Dropped n = copies 0
 
-unfoldable pub letGoOf : Mark → ℕ → ℕ
-letGoOf Unmarked n = 0
-letGoOf Held n = 0
+unfoldable pub letGoOf : Mark → Copies → Copies
+letGoOf Unmarked n = copies 0
+letGoOf Held n = copies 0
 letGoOf Dropped n = n
 
 -- filled is the smaller of Q and A, extra is A minus filled
-unfoldable pub filledOf : Line → ℕ
-filledOf l = min (l .ordered) (l .arrived)
+unfoldable pub filledOf : Line → Copies
+filledOf l = copies (min (l .ordered .0) (l .arrived .0))
+
+-- Q minus filled
+abbrev pub notFilled : Line → Copies
+notFilled l = copies (l .ordered .0 - filledOf l .0)
 
 unfoldable pub figuresOf : Line → Figures
 figuresOf l = record {
   ordered = l .ordered;
   filled = filledOf l;
-  «still_open» = openOf (l .mark) (l .ordered - filledOf l);
-  «let_go» = letGoOf (l .mark) (l .ordered - filledOf l);
-  extra = l .arrived - filledOf l;
+  «still_open» = openOf (l .mark) (notFilled l);
+  «let_go» = letGoOf (l .mark) (notFilled l);
+  extra = copies (l .arrived .0 - filledOf l .0);
 }

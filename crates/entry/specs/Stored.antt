@@ -7,6 +7,8 @@ use lib.ListN.{getD}
 use lib.Seq.{slice, sets}
 use Rattle.cells.specs.Bytes.{within, same}
 use Rattle.cells.specs.Little.{leAt, leBytes}
+use Rattle.rules.specs.Values.{copies}
+use Rattle.rules.specs.declared.amount.Copies.{Copies}
 use Rattle.entry.specs.Line.{markOf, markByte}
 use Rattle.entry.specs.declared.line.Line.{Line}
 
@@ -42,14 +44,14 @@ mostArrived = 9999999
 
 unfoldable pub lineAt : List ℕ → ℕ → Line
 lineAt lines i = record {
-  ordered = leAt lines (lineWidth * i + keyWidth) 2;
-  arrived = leAt lines (lineWidth * i + arrivedAt) 4;
+  ordered = copies (leAt lines (lineWidth * i + keyWidth) 2);
+  arrived = copies (leAt lines (lineWidth * i + arrivedAt) 4);
   mark = markOf (getD lines (lineWidth * i + markAt) 0);
 }
 
 -- the seven bytes of a line after its key
 unfoldable pub lineBytes : Line → List ℕ
-lineBytes l = leBytes 2 (l .ordered) ++ (markByte (l .mark) ∷ leBytes 4 (l .arrived))
+lineBytes l = leBytes 2 (l .ordered .0) ++ (markByte (l .mark) ∷ leBytes 4 (l .arrived .0))
 
 unfoldable pub putLine : List ℕ → ℕ → Line → List ℕ
 putLine lines i l = sets lines (lineWidth * i + keyWidth) (lineBytes l)
@@ -77,11 +79,11 @@ slipIs slips key j = same (slipKeyAt slips j) key
 unfoldable pub slipLineAt : List ℕ → ℕ → ℕ
 slipLineAt slips j = leAt slips (slipWidth * j + slipKeyWidth) 2
 
-unfoldable pub slipCopiesAt : List ℕ → ℕ → ℕ
-slipCopiesAt slips j = leAt slips (slipWidth * j + slipCopiesPlace) 2
+unfoldable pub slipCopiesAt : List ℕ → ℕ → Copies
+slipCopiesAt slips j = copies (leAt slips (slipWidth * j + slipCopiesPlace) 2)
 
-unfoldable pub addSlip : List ℕ → ℕ → List ℕ → ℕ → ℕ → List ℕ
-addSlip slips j key line copies = sets slips (slipWidth * j) (key ++ (leBytes 2 line ++ leBytes 2 copies))
+unfoldable pub addSlip : List ℕ → ℕ → List ℕ → ℕ → Copies → List ℕ
+addSlip slips j key line n = sets slips (slipWidth * j) (key ++ (leBytes 2 line ++ leBytes 2 (n .0)))
 
 -- each slip names a used line
 unfoldable pub slipSound : ℕ → List ℕ → ℕ → Bool

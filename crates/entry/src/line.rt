@@ -1,7 +1,9 @@
 // A line of the book as a value, taken and given back by value.
 ghost use mathlib.Core.Path.{_≡_};
 ghost use Prim.Native.Nat.{_+_, _<_, _^_, min};
+ghost use Rattle.rules.specs.Values.{copies};
 ghost use Rattle.entry.specs.Line.{markOf, markByte, openOf, letGoOf, withMark, withArrivals, figuresOf};
+use rules::amount::Copies;
 
 // The last report mark: none, J or N.
 pub enum Mark {
@@ -12,18 +14,18 @@ pub enum Mark {
 
 // The ordered quantity Q, the sum A of its slips, and the last mark.
 pub struct Line {
-    pub ordered: u64,
-    pub arrived: u64,
+    pub ordered: Copies,
+    pub arrived: Copies,
     pub mark: Mark,
 }
 
 #[repr(C)]
 pub struct Figures {
-    pub ordered: u64,
-    pub filled: u64,
-    pub still_open: u64,
-    pub let_go: u64,
-    pub extra: u64,
+    pub ordered: Copies,
+    pub filled: Copies,
+    pub still_open: Copies,
+    pub let_go: Copies,
+    pub extra: Copies,
 }
 
 // The mark that a byte of the book stands for.
@@ -49,29 +51,29 @@ pub fn mark_byte(m: Mark) -> u8
     }
 }
 
-fn smaller(a: u64, b: u64) -> u64
-    ensures { λ r. ⌜ r ≡ min a b ⌝ }
+fn smaller(a: Copies, b: Copies) -> Copies
+    ensures { λ r. ⌜ r ≡ copies (min (a .0) (b .0)) ⌝ }
 {
-    if a < b { a } else { b }
+    if a.0 < b.0 { a } else { b }
 }
 
 // What of the copies not filled is open, and what is let go.
-fn open_of(m: Mark, n: u64) -> u64
+fn open_of(m: Mark, n: Copies) -> Copies
     ensures { λ r. ⌜ r ≡ openOf m n ⌝ }
 {
     match m {
         Mark::Unmarked => n,
         Mark::Held => n,
-        Mark::Dropped => 0,
+        Mark::Dropped => Copies(0),
     }
 }
 
-fn let_go_of(m: Mark, n: u64) -> u64
+fn let_go_of(m: Mark, n: Copies) -> Copies
     ensures { λ r. ⌜ r ≡ letGoOf m n ⌝ }
 {
     match m {
-        Mark::Unmarked => 0,
-        Mark::Held => 0,
+        Mark::Unmarked => Copies(0),
+        Mark::Held => Copies(0),
         Mark::Dropped => n,
     }
 }
@@ -81,19 +83,22 @@ impl Line {
     pub fn with_mark(self, m: Mark) -> Self
         ensures { λ r. ⌜ r ≡ withMark m self ⌝ }
     {
+        let ordered = self.ordered;
+        let arrived = self.arrived;
         Line {
-            ordered: self.ordered,
-            arrived: self.arrived,
+            ordered,
+            arrived,
             mark: m,
         }
     }
 
     // The line with so many copies more.
-    pub fn with_arrivals(mut self, n: u64) -> Self
-        requires { ⌜ self .arrived + n < 2 ^ 64 ⌝ }
+    pub fn with_arrivals(mut self, n: Copies) -> Self
+        requires { ⌜ self .arrived .0 + n .0 < 2 ^ 64 ⌝ }
         ensures { λ r. ⌜ r ≡ withArrivals n self ⌝ }
     {
-        self.arrived = self.arrived + n;
+        let arrived = Copies(self.arrived.0 + n.0);
+        self.arrived = arrived;
         self
     }
 
@@ -104,15 +109,16 @@ impl Line {
         let a = self.arrived;
         let m = self.mark;
         let filled = smaller(q, a);
-        let left = q - filled;
+        let left = Copies(q.0 - filled.0);
         let still_open = open_of(m, left);
         let let_go = let_go_of(m, left);
+        let extra = Copies(a.0 - filled.0);
         Figures {
             ordered: q,
-            filled: filled,
-            still_open: still_open,
-            let_go: let_go,
-            extra: a - filled,
+            filled,
+            still_open,
+            let_go,
+            extra,
         }
     }
 }

@@ -12,6 +12,7 @@ use cells::little::put2;
 use cells::little::put4;
 use cells::paste_at;
 use cells::same_by;
+use rules::amount::Copies;
 
 pub const LINE_WIDTH: usize = 56;
 
@@ -45,9 +46,9 @@ pub fn read_line(lines: &[u8], i: usize) -> Line
     ensures { λ r. ⌜ r ≡ lineAt (now (lines .entry)) i ⌝ }
 {
     let at = LINE_WIDTH * i;
-    let ordered = get2(lines, at + KEY_WIDTH);
+    let ordered = Copies(get2(lines, at + KEY_WIDTH));
     let mark = mark_of(lines[at + MARK_AT]);
-    let arrived = get4(lines, at + ARRIVED_AT);
+    let arrived = Copies(get4(lines, at + ARRIVED_AT));
     Line {
         ordered,
         arrived,
@@ -62,9 +63,9 @@ pub fn write_line(lines: &mut [u8], i: usize, l: Line)
 {
     let at = LINE_WIDTH * i;
     let mark = l.mark;
-    put2(lines, at + KEY_WIDTH, l.ordered);
+    put2(lines, at + KEY_WIDTH, l.ordered.0);
     lines[at + MARK_AT] = mark_byte(mark);
-    put4(lines, at + ARRIVED_AT, l.arrived);
+    put4(lines, at + ARRIVED_AT, l.arrived.0);
 }
 
 // A line with its key.
@@ -116,20 +117,20 @@ pub fn slip_line(slips: &[u8], j: usize) -> usize
     get2(slips, SLIP_WIDTH * j + SLIP_KEY_WIDTH) as usize
 }
 
-pub fn slip_copies(slips: &[u8], j: usize) -> u64
+pub fn slip_copies(slips: &[u8], j: usize) -> Copies
     requires { ⌜ slipWidth * j + slipWidth ≤ length (now slips) ⌝ }
     ensures { λ r. ⌜ r ≡ slipCopiesAt (now (slips .entry)) j ⌝ }
 {
-    get2(slips, SLIP_WIDTH * j + SLIP_COPIES_AT)
+    Copies(get2(slips, SLIP_WIDTH * j + SLIP_COPIES_AT))
 }
 
 // A slip with its key, the index of its line and its quantity.
-pub fn write_slip(slips: &mut [u8], j: usize, key: &[u8], line: usize, copies: u64)
+pub fn write_slip(slips: &mut [u8], j: usize, key: &[u8], line: usize, copies: Copies)
     requires { ⌜ (length (now key) ≡ slipKeyWidth) × (slipWidth * j + slipWidth ≤ length (now slips)) ⌝ }
     ensures { λ _. ⌜ now (slips .exit) ≡ addSlip (now (slips .entry)) j (now (key .entry)) line copies ⌝ }
 {
     let at = SLIP_WIDTH * j;
     paste_at(slips, at, key);
     put2(slips, at + SLIP_KEY_WIDTH, line as u64);
-    put2(slips, at + SLIP_COPIES_AT, copies);
+    put2(slips, at + SLIP_COPIES_AT, copies.0);
 }

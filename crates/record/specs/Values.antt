@@ -4,9 +4,8 @@ use mathlib.Core.List.{List}
 use lib.ListN.{getD, replicate}
 use lib.Seq.{slice}
 use Rattle.rules.specs.Number.{number}
-use Rattle.rules.specs.Day.{dayOf}
+use Rattle.rules.specs.Day.{noDay, dayKept}
 use Rattle.rules.specs.Values.{priceOf, discountOf, copiesOf, expectedOf}
-use Rattle.rules.specs.declared.day.Day.{Day}
 use Rattle.rules.specs.declared.expected.Expected.the-variants.{Zeros}
 use Rattle.record.specs.Layout.{layout, startOf}
 use Rattle.record.specs.declared.layout.Kind.{Kind}
@@ -36,19 +35,19 @@ unfoldable pub orderOf : List ℕ → Order
 orderOf s = record {
   sender = partyOf order 1 s;
   recipient = partyOf order 3 s;
-  date = dayOf (fieldBytes order 5 s);
+  date = dayKept (fieldBytes order 5 s);
   reference = fieldBytes order 6 s;
   article = articleOf order 7 s;
   quantity = copiesOf (fieldBytes order 9 s);
   measure = fieldBytes order 10 s;
 }
 
--- a closing record's fields stand where a goods record's do, and its date is the day 0 of month 0 of year 0
+-- a closing record's fields stand where a goods record's do; its date is no day, so the day 0 of month 0 of year 0 is kept
 unfoldable pub deliveryOf : List ℕ → Delivery
 deliveryOf s = record {
   sender = partyOf goods 1 s;
   recipient = partyOf goods 3 s;
-  date = dayOf (fieldBytes goods 5 s);
+  date = dayKept (fieldBytes goods 5 s);
   slip = fieldBytes goods 6 s;
   position = fieldBytes goods 7 s;
   reference = fieldBytes goods 8 s;
@@ -79,9 +78,6 @@ noParty = record { address = replicate 10 0; qualifier = replicate 2 0 }
 
 abbrev pub noArticle : Article
 noArticle = record { number = replicate 13 0; qualifier = replicate 2 0 }
-
-abbrev pub noDay : Day
-noDay = record { year = 0; month = 0; day = 0 }
 
 abbrev pub noOrder : Order
 noOrder = record {

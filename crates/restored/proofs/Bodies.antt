@@ -41,7 +41,7 @@ module _ (ss : List ℕ) (j : ℕ) where
   slip-line = number-within ss (slipWidth * j) (slipWidth * j + slipBodyWidth) slipKeyWidth 2 (omega arith)
 
   -- its copies
-  pub slip-copies : slipCopies (slipBodyAt ss j) ≡ slipCopiesAt ss j
+  pub slip-copies : slipCopies (slipBodyAt ss j) ≡ slipCopiesAt ss j .0
   unfolding slipBodyAt slipCopiesAt slipCopies
   slip-copies = number-within ss (slipWidth * j) (slipWidth * j + slipBodyWidth) slipCopiesPlace 2 (omega arith)
 

@@ -69,8 +69,8 @@ mark-is-byte Dropped = refl
 line-bytes : (l : Line) → Bytes (lineBytes l)
 unfolding lineBytes all
 line-bytes l =
-    rw (all-append (λ b. ltb b 256) (leBytes 2 (l .ordered)) (markByte (l .mark) ∷ leBytes 4 (l .arrived)), le-bytes 2 (l .ordered), mark-is-byte (l .mark))
-    (le-bytes 4 (l .arrived))
+    rw (all-append (λ b. ltb b 256) (leBytes 2 (l .ordered .0)) (markByte (l .mark) ∷ leBytes 4 (l .arrived .0)), le-bytes 2 (l .ordered .0), mark-is-byte (l .mark))
+    (le-bytes 4 (l .arrived .0))
 
 -- a line's figures replaced
 put-bytes : (ls : List ℕ) (i : ℕ) (l : Line) → Bytes ls → Bytes (putLine ls i l)

@@ -51,7 +51,7 @@ module _ (s : List ℕ) (b : Lent) (i n : ℕ) (o : Ordered b) where
   unfolding lentAfter lineAfter noCopies bookJudged
   order-entered fit e =
       let q = order-fits b i (findLine b (lineKey Order s)) (e .fits) in
-      let ne = eqb-false (copiesIn Order s) 0 (e .copies) in
+      let ne = eqb-false (copiesIn Order s .0) 0 (e .copies) in
       let d = q .1 .1 in
       rw d (order-ordered b (lineKey Order s) (copiesIn Order s) o (order-key s n fit) (omega arith) (order-copies s n fit) (q .0) (q .1 .0) (order-key-kept s n fit (e .named)))
 
@@ -60,7 +60,7 @@ module _ (s : List ℕ) (b : Lent) (i n : ℕ) (o : Ordered b) where
   unfolding lentAfter lineAfter noCopies bookJudged usedSlips
   goods-entered fit e =
       let q = delivery-fits b i (lineKey Goods s) (copiesIn Goods s) (findSlip b (slipKey s)) (e .fits) in
-      let ne = eqb-false (copiesIn Goods s) 0 (e .copies) in
+      let ne = eqb-false (copiesIn Goods s .0) 0 (e .copies) in
       goods-ordered b (lineKey Goods s) (slipKey s) (copiesIn Goods s) i o (slip-key-width s n fit) (omega arith) (goods-copies s n fit) (q .0) (q .1 .0) (q .1 .1 .0) (q .1 .1 .1) (slip-key-kept s n fit (e .something)) (goods-parties s n fit)
 
   -- a report

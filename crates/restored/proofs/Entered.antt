@@ -11,6 +11,7 @@ use lib.Dec.{eqb}
 use lib.ListN.{length}
 use Rattle.cells.specs.Bytes.{pick, same}
 use Rattle.cells.proofs.Bools.{split}
+use Rattle.rules.specs.declared.amount.Copies.{Copies}
 use Rattle.record.specs.declared.layout.Kind.the-variants.{Goods}
 use Rattle.entry.specs.Line.{withMark, withArrivals}
 use Rattle.entry.specs.Stored.{keyWidth, slipWidth, slipKeyWidth, mostCopies, mostArrived, lineAt, putLine, addLine, keyAt, keyIs, slipKeyAt, slipIs, slipLineAt, addSlip}
@@ -64,7 +65,7 @@ module _ (b : Lent) (key : List ℕ) (m : Mark) (i : ℕ) (o : Ordered b) (f : f
       }
 
 -- an order is entered: a line is added
-module _ (b : Lent) (key : List ℕ) (copies : ℕ) (o : Ordered b) (wide : length key ≡ keyWidth) (least : 1 ≤ copies) (most : copies ≤ mostCopies) where
+module _ (b : Lent) (key : List ℕ) (copies : Copies) (o : Ordered b) (wide : length key ≡ keyWidth) (least : 1 ≤ copies .0) (most : copies .0 ≤ mostCopies) where
   pub order-ordered : findLine b key ≡ Nothing → usedLines b < lineRoom b → keyKept (keyFields Goods) referenceAt key ≡ true → Ordered (moreLine b key (newLine copies))
   unfolding newLine bookedOn
   order-ordered f room rules =
@@ -103,8 +104,8 @@ module _ (b : Lent) (key : List ℕ) (copies : ℕ) (o : Ordered b) (wide : leng
       }
 
 -- the copies that slips have on a line, with one slip more
-module _ (ss : List ℕ) (m : ℕ) (key : List ℕ) (i copies x : ℕ) (wide : length key ≡ slipKeyWidth) (fits : slipWidth * m + slipWidth ≤ length ss) (few : copies < 65536) (low : i < 65536) where
-  sum-after : sumFrom (bookedOn (addSlip ss m key i copies) x) (suc m) 0 ≡ sumFrom (bookedOn ss x) m 0 + pick (eqb i x) copies 0
+module _ (ss : List ℕ) (m : ℕ) (key : List ℕ) (i : ℕ) (copies : Copies) (x : ℕ) (wide : length key ≡ slipKeyWidth) (fits : slipWidth * m + slipWidth ≤ length ss) (few : copies .0 < 65536) (low : i < 65536) where
+  sum-after : sumFrom (bookedOn (addSlip ss m key i copies) x) (suc m) 0 ≡ sumFrom (bookedOn ss x) m 0 + pick (eqb i x) (copies .0) 0
   unfolding bookedOn
   sum-after =
       let after : ℕ → ℕ = bookedOn (addSlip ss m key i copies) x in
@@ -113,12 +114,12 @@ module _ (ss : List ℕ) (m : ℕ) (key : List ℕ) (i copies x : ℕ) (wide : l
       (λ j a c.
       let ne : j ≢ m = λ q. omega arith in
       rw (slip-line-apart ss m key i copies wide j ne, slip-copies-apart ss m key i copies wide j ne)) in
-      let last : after m ≡ pick (eqb i x) copies 0 = rw (slip-line ss m key i copies wide fits low, slip-copies ss m key i copies wide fits few) in
+      let last : after m ≡ pick (eqb i x) (copies .0) 0 = rw (slip-line ss m key i copies wide fits low, slip-copies ss m key i copies wide fits few) in
       sum-more after m 0 ∙ rw (zero-add m, before, last)
 
 -- a delivery is entered: a slip is added, and its copies to its line
-module _ (b : Lent) (key slip : List ℕ) (copies i : ℕ) (o : Ordered b) (wide : length slip ≡ slipKeyWidth) (least : 1 ≤ copies) (few : copies ≤ mostCopies) where
-  pub goods-ordered : findSlip b slip ≡ Nothing → findLine b key ≡ At i → lineAt (b .lines) i .arrived + copies ≤ mostArrived → usedSlips b < slipRoom b
+module _ (b : Lent) (key slip : List ℕ) (copies : Copies) (i : ℕ) (o : Ordered b) (wide : length slip ≡ slipKeyWidth) (least : 1 ≤ copies .0) (few : copies .0 ≤ mostCopies) where
+  pub goods-ordered : findSlip b slip ≡ Nothing → findLine b key ≡ At i → lineAt (b .lines) i .arrived .0 + copies .0 ≤ mostArrived → usedSlips b < slipRoom b
       → keyKept slipFields slipNumberAt slip ≡ true → partiesAgree slip key ≡ true
       → Ordered (moreSlip (withLine b i (withArrivals copies (lineAt (b .lines) i))) slip i copies)
   unfolding usedLines usedSlips slipRoom withArrivals
@@ -147,7 +148,7 @@ module _ (b : Lent) (key slip : List ℕ) (copies i : ℕ) (o : Ordered b) (wide
             (λ e. let d = eqb-true j m e in rw (d, new) rules)
             (λ e. let ne = eqb-false j m e in rw (apart j ne) (o .slip-rules j (omega (arith, more))));
         slip-copies = λ j h. split (eqb j m)
-            (λ e. let d = eqb-true j m e in rw (d, slip-copies ss m slip i copies wide fits (omega arith), le-leb 1 copies least, le-leb copies mostCopies few))
+            (λ e. let d = eqb-true j m e in rw (d, slip-copies ss m slip i copies wide fits (omega arith), le-leb 1 (copies .0) least, le-leb (copies .0) mostCopies few))
             (λ e. let ne = eqb-false j m e in rw (slip-copies-apart ss m slip i copies wide j ne) (o .slip-copies j (omega (arith, more))));
         slip-parties = λ j h. split (eqb j m)
             (λ e. let d = eqb-true j m e in rw (d, new, slip-line ss m slip i copies wide fits low, put-key ls i l i, own) agree)

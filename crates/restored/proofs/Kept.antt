@@ -97,7 +97,7 @@ module _ (n m : ℕ) (line slip : ℕ → List ℕ) (kept : entriesKept n m line
   sum-most i a = leb-true _ _ (all-at (λ i. leb (arrivedOn slip m i) mostArrived) n 0 i sums-all (omega arith) (omega arith))
 
 -- a line whose body keeps the rules, with A within its limit, is sound
-line-sound : (lines : List ℕ) (i : ℕ) → lineKept (lineBodyAt lines i) ≡ true → lineAt lines i .arrived ≤ mostArrived → lineSound lines i ≡ true
+line-sound : (lines : List ℕ) (i : ℕ) → lineKept (lineBodyAt lines i) ≡ true → lineAt lines i .arrived .0 ≤ mostArrived → lineSound lines i ≡ true
 unfolding lineSound lineKept lineAt
 line-sound lines i h k =
     let at : ℕ = lineWidth * i in
@@ -113,7 +113,7 @@ line-sound lines i h k =
 -- a book in sound rooms that keeps the rules of a save, each A its slips' sum, is sound
 pub kept-sound : (c : Lent) → roomsSound c ≡ true → usedLines c ≤ lineRoom c → usedSlips c ≤ slipRoom c
     → entriesKept (usedLines c) (usedSlips c) (lineBodyAt (c .lines)) (slipBodyAt (c .slips)) ≡ true
-    → ((i : ℕ) → i < usedLines c → lineAt (c .lines) i .arrived ≡ arrivedOn (slipBodyAt (c .slips)) (usedSlips c) i)
+    → ((i : ℕ) → i < usedLines c → lineAt (c .lines) i .arrived .0 ≡ arrivedOn (slipBodyAt (c .slips)) (usedSlips c) i)
     → sound c ≡ true
 unfolding sound slipSound roomsSound
 kept-sound c rooms u v kept sums =

@@ -150,7 +150,7 @@ module _ (s : List ℕ) (b : Lent) (two : length (b .used) ≡ 2) (valid : isSav
       ∙ ap (slipIn s n) (zero-add j)
 
   -- A is read back
-  loaded-arrived : (i : ℕ) → i < n → lineAt (c .lines) i .arrived ≡ arrivedOn (slipIn s n) m i
+  loaded-arrived : (i : ℕ) → i < n → lineAt (c .lines) i .arrived .0 ≡ arrivedOn (slipIn s n) m i
   unfolding lineAt loadedLine
   loaded-arrived i a =
       let sum : ℕ = arrivedOn (slipIn s n) m i in
@@ -167,7 +167,7 @@ module _ (s : List ℕ) (b : Lent) (two : length (b .used) ≡ 2) (valid : isSav
       (entries-same n m (lineBodyAt (c .lines)) (lineIn s) (slipBodyAt (c .slips)) (slipIn s n) loaded-line loaded-slip ∙ valid-so s valid .entries)
 
   -- each A is its slips' sum
-  loaded-sums : (i : ℕ) → i < usedLines c → lineAt (c .lines) i .arrived ≡ arrivedOn (slipBodyAt (c .slips)) (usedSlips c) i
+  loaded-sums : (i : ℕ) → i < usedLines c → lineAt (c .lines) i .arrived .0 ≡ arrivedOn (slipBodyAt (c .slips)) (usedSlips c) i
   loaded-sums i a =
       rw loaded-count-slips
       (loaded-arrived i (omega (arith, loaded-count-lines)) ∙ sym (arrived-same m (slipBodyAt (c .slips)) (slipIn s n) loaded-slip i))

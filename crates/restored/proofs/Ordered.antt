@@ -26,7 +26,7 @@ use Rattle.restored.proofs.Bodies.{line-key, line-copies, line-mark, sl
 
 -- the copies of the slip at j where it names the line at i, else none
 unfoldable pub bookedOn : List ℕ → ℕ → ℕ → ℕ
-bookedOn slips i j = pick (eqb (slipLineAt slips j) i) (slipCopiesAt slips j) 0
+bookedOn slips i j = pick (eqb (slipLineAt slips j) i) (slipCopiesAt slips j .0) 0
 
 -- a sound book: each key keeps the rules and is no earlier one's, each slip has copies and its line's school and supplier, each A is its slips' sum
 pub record Ordered (b : Lent) : Type 0 where
@@ -34,10 +34,10 @@ pub record Ordered (b : Lent) : Type 0 where
   pub line-rules : (i : ℕ) → i < usedLines b → keyKept (keyFields Goods) referenceAt (keyAt (b .lines) i) ≡ true
   pub line-new : (e i : ℕ) → e < i → i < usedLines b → same (keyAt (b .lines) e) (keyAt (b .lines) i) ≡ false
   pub slip-rules : (j : ℕ) → j < usedSlips b → keyKept slipFields slipNumberAt (slipKeyAt (b .slips) j) ≡ true
-  pub slip-copies : (j : ℕ) → j < usedSlips b → within 1 mostCopies (slipCopiesAt (b .slips) j) ≡ true
+  pub slip-copies : (j : ℕ) → j < usedSlips b → within 1 mostCopies (slipCopiesAt (b .slips) j .0) ≡ true
   pub slip-parties : (j : ℕ) → j < usedSlips b → partiesAgree (slipKeyAt (b .slips) j) (keyAt (b .lines) (slipLineAt (b .slips) j)) ≡ true
   pub slip-new : (e j : ℕ) → e < j → j < usedSlips b → same (slipKeyAt (b .slips) e) (slipKeyAt (b .slips) j) ≡ false
-  pub sums : (i : ℕ) → i < usedLines b → lineAt (b .lines) i .arrived ≡ sumFrom (bookedOn (b .slips) i) (usedSlips b) 0
+  pub sums : (i : ℕ) → i < usedLines b → lineAt (b .lines) i .arrived .0 ≡ sumFrom (bookedOn (b .slips) i) (usedSlips b) 0
 
 -- a line that is sound, with a key that keeps the rules, keeps the rules
 line-kept : (ls : List ℕ) (i : ℕ) → lineSound ls i ≡ true → keyKept (keyFields Goods) referenceAt (keyAt ls i) ≡ true → lineKept (lineBodyAt ls i) ≡ true
@@ -80,7 +80,7 @@ module _ (b : Lent) (o : Ordered b) where
   slip-is-kept j l =
       let names = sound-so b (o .kept .is-sound) .slip-names j l in
       let i : ℕ = slipLineAt (b .slips) j in
-      let n : ℕ = slipCopiesAt (b .slips) j in
+      let n : ℕ = slipCopiesAt (b .slips) j .0 in
       let some = o .slip-copies j l in
       rw (slip-key (b .slips) j, slip-line (b .slips) j, slip-copies (b .slips) j, o .slip-rules j l, and-left (leb 1 n) (leb n mostCopies) some, and-right (leb 1 n) (leb n mostCopies) some, lt-ltb i (usedLines b) names, parties-keys (slipBodyAt (b .slips) j) (lineBodyAt (b .lines) i), slip-key (b .slips) j, line-key (b .lines) i)
       (o .slip-parties j l)
@@ -95,7 +95,7 @@ module _ (b : Lent) (o : Ordered b) where
       rw (slip-is-kept j l, is-first slipKeyWidth (slipBodyAt (b .slips)) (slipKeyAt (b .slips)) (slip-key (b .slips)) j (λ e h. o .slip-new e j h l)))
 
   -- A is the sum of the slips
-  sum-of : (i : ℕ) → i < usedLines b → lineAt (b .lines) i .arrived ≡ arrivedOn (slipBodyAt (b .slips)) (usedSlips b) i
+  sum-of : (i : ℕ) → i < usedLines b → lineAt (b .lines) i .arrived .0 ≡ arrivedOn (slipBodyAt (b .slips)) (usedSlips b) i
   sum-of i l = o .sums i l ∙ sym (arrived-on (b .slips) (usedSlips b) i)
 
   -- each sum is within the limit

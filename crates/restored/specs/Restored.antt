@@ -22,7 +22,7 @@ Bytes s = all (λ b. ltb b 256) s ≡ true
 pub record Orderly (b : Lent) : Type 0 where
   pub is-sound : sound b ≡ true
   pub entries : entriesKept (usedLines b) (usedSlips b) (lineBodyAt (b .lines)) (slipBodyAt (b .slips)) ≡ true
-  pub sums : (i : ℕ) → i < usedLines b → lineAt (b .lines) i .arrived ≡ arrivedOn (slipBodyAt (b .slips)) (usedSlips b) i
+  pub sums : (i : ℕ) → i < usedLines b → lineAt (b .lines) i .arrived .0 ≡ arrivedOn (slipBodyAt (b .slips)) (usedSlips b) i
 
 -- two books with equal counts and used entries
 pub record SameBook (b c : Lent) : Type 0 where

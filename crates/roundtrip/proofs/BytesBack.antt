@@ -1,5 +1,5 @@
 -- Bytes that keep a field's rule and are read as a value, written again.
-use mathlib.Core.Path.{_≡_, _∙_, ap, sym}
+use mathlib.Core.Path.{_≡_, _∙_, ap}
 use mathlib.Core.Bool.{true, _&&_}
 use mathlib.Core.List.{List}
 use Prim.Native.Nat.{ℕ, _+_, _^_, _≤_, _<_}
@@ -15,18 +15,19 @@ use Rattle.cells.proofs.Parts.{parts-join}
 use Rattle.cells.proofs.Lists.{all-weaker, all-take, all-drop}
 use Rattle.rules.specs.Class.{belongs, allOf, ofClass, digit}
 use Rattle.rules.specs.Number.{numberFrom, number}
-use Rattle.rules.specs.Day.{realDay, dayOf, dayWidth, isDay}
+use Rattle.rules.specs.Day.{realDay, dayOf, dayWidth, isDay, dated, dayKept}
 use Rattle.rules.specs.Rule.{expected}
 use Rattle.rules.specs.Values.{expectedOf}
 use Rattle.rules.specs.declared.class.Class.{Class}
 use Rattle.rules.specs.declared.class.Class.the-variants.{Digit, Blank, Zero}
+use Rattle.rules.proofs.Days.{dated-day, kept-day}
 use Rattle.rules.proofs.Digits.{width}
 use Rattle.rules.proofs.Fits.{at-most}
 use Rattle.writing.specs.Digits.{digitsOf, numberBytes}
 use Rattle.writing.specs.Typed.{dayDigits, dayBytes, isNoDay, deliveryDayBytes, expectedBytes}
 use Rattle.roundtrip.proofs.Sequences.{all-one}
 use Rattle.roundtrip.proofs.NumbersBack.{digits-back}
-use Rattle.roundtrip.proofs.ValuesBack.{first-year, on-back}
+use Rattle.roundtrip.proofs.ValuesBack.{first-year}
 
 -- what exactly w bytes of a class are
 module _ (c : Class) (w : ℕ) (s : List ℕ) (e : ofClass c w w s ≡ true) where
@@ -93,32 +94,35 @@ module _ (s : List ℕ) (e : isDay s ≡ true) where
       rw (part-digits 0 4 (omega arith), part-digits 4 2 (omega arith), part-digits 6 2 (omega arith), parts-join 4 2 2 s, parts-join 0 4 4 s)
       (take-all 8 s (omega (arith, eight)))
 
-  pub day-bytes : dayBytes (dayOf s) ≡ s
+  -- so they are the bytes of the day that is kept
+  pub day-bytes : dayBytes (dayKept s) ≡ s
   unfolding dayBytes
-  day-bytes = rw real day-digits
+  day-bytes = rw (kept-day s e, real) day-digits
 
   -- in a goods record
-  pub goods-day-bytes : deliveryDayBytes (dayOf s) ≡ s
+  pub goods-day-bytes : deliveryDayBytes (dayKept s) ≡ s
   unfolding deliveryDayBytes isNoDay
-  goods-day-bytes = rw (ne-eqb (dayOf s .year) 0 (λ q. omega (arith, first-year (dayOf s) real))) day-bytes
+  goods-day-bytes =
+      let k = ap realDay (kept-day s e) ∙ real in
+      rw (ne-eqb (dayKept s .year) 0 (λ q. omega (arith, first-year (dayKept s) k))) day-bytes
 
   -- as an expected date
   on-day-bytes : expectedBytes (expectedOf s) ≡ s
-  unfolding expectedBytes
-  on-day-bytes = ap expectedBytes (ap expectedOf (sym day-digits) ∙ on-back (dayOf s) real) ∙ day-bytes
+  unfolding expectedBytes expectedOf
+  on-day-bytes = rw (dated-day s e) (rw (kept-day s e) at day-bytes)
 
 -- eight zeros, the date of a closing record
-pub closing-day-bytes : (s : List ℕ) → ofClass Zero dayWidth dayWidth s ≡ true → deliveryDayBytes (dayOf s) ≡ s
-unfolding deliveryDayBytes isNoDay dayOf numberFrom
+pub closing-day-bytes : (s : List ℕ) → ofClass Zero dayWidth dayWidth s ≡ true → deliveryDayBytes (dayKept s) ≡ s
+unfolding deliveryDayBytes isNoDay dated isDay realDay allOf all belongs dayOf numberFrom
 closing-day-bytes s e = rw (zeros-are dayWidth s e)
 
 -- eight zeros, and eight blanks, where a date may be expected
 zeros-expected : (s : List ℕ) → ofClass Zero dayWidth dayWidth s ≡ true → expectedBytes (expectedOf s) ≡ s
-unfolding expectedBytes expectedOf allOf all belongs
+unfolding expectedBytes expectedOf dated isDay realDay allOf all belongs dayOf numberFrom
 zeros-expected s e = rw (zeros-are dayWidth s e)
 
 blanks-expected : (s : List ℕ) → ofClass Blank dayWidth dayWidth s ≡ true → expectedBytes (expectedOf s) ≡ s
-unfolding expectedBytes expectedOf allOf all belongs
+unfolding expectedBytes expectedOf dated isDay realDay allOf all belongs dayOf numberFrom
 blanks-expected s e = rw (blanks-are dayWidth s e)
 
 -- an expected date: a day, eight zeros or eight blanks

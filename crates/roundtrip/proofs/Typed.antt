@@ -9,7 +9,7 @@ use lib.Seq.{slice}
 use Rattle.cells.specs.Bytes.{pick, bytes, same}
 use Rattle.rules.specs.Class.{belongs, ofClass}
 use Rattle.rules.specs.Number.{number}
-use Rattle.rules.specs.Day.{dayWidth, dayOf}
+use Rattle.rules.specs.Day.{dayWidth, dayKept}
 use Rattle.rules.specs.Values.{expectedOf}
 use Rattle.rules.specs.Rule.{keeps}
 use Rattle.rules.specs.declared.class.Class.the-variants.{Allowed, Digit, Zero}
@@ -101,7 +101,7 @@ order-values o rest h a =
     λ i. record {
       sender = record { address = field 1 i; qualifier = field 2 i };
       recipient = record { address = field 3 i; qualifier = field 4 i };
-      date = (ap dayOf (field 5) ∙ day-back (o .date) (ok 5)) i;
+      date = (ap (λ (s : List ℕ). dayKept s) (field 5) ∙ day-back (o .date) (ok 5)) i;
       reference = field 6 i;
       article = record { number = field 7 i; qualifier = field 8 i };
       quantity = record { 0 = (ap number (field 9) ∙ number-back 4 (o .quantity .0) (omega arith) (ok 9)) i };
@@ -116,7 +116,7 @@ delivery-values d rest h a =
     λ i. record {
       sender = record { address = field 1 i; qualifier = field 2 i };
       recipient = record { address = field 3 i; qualifier = field 4 i };
-      date = (ap dayOf (field 5) ∙ delivery-day-back (d .date) (ok 5)) i;
+      date = (ap (λ (s : List ℕ). dayKept s) (field 5) ∙ delivery-day-back (d .date) (ok 5)) i;
       slip = field 6 i;
       position = field 7 i;
       reference = field 8 i;
@@ -190,7 +190,7 @@ report-fields s name wide kept =
 
 -- so of a delivery, given that its date is made again and that its numbers are digits
 delivery-fields : (s : List ℕ) → slice 0 4 s ≡ bytes "L101" → fixedWidth goods ≤ length s
-    → deliveryDayBytes (dayOf (fieldBytes goods 5 s)) ≡ fieldBytes goods 5 s
+    → deliveryDayBytes (dayKept (fieldBytes goods 5 s)) ≡ fieldBytes goods 5 s
     → ofClass Digit 4 4 (fieldBytes goods 11 s) ≡ true
     → ofClass Digit 15 15 (fieldBytes goods 12 s) ≡ true
     → ofClass Digit 8 8 (fieldBytes goods 15 s) ≡ true

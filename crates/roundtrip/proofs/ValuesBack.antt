@@ -6,22 +6,24 @@ use Prim.Native.Nat.{ℕ, zero, suc, _^_, _≤_, _<_}
 use native.Mathlib.Omega.{arith}
 use borrow.Author.Tests.{ltb-true, ltb-false, leb-true, eqb-true, ne-eqb}
 use lib.Dec.{eqb, leb, ltb}
-use lib.ListN.{getD, replicate, List·getD-eq-default}
+use lib.ListN.{length, getD, replicate, List·getD-eq-default}
 use Rattle.cells.specs.Bytes.{within, all}
 use Rattle.cells.proofs.Bools.{split, and-left, and-right}
+use Rattle.cells.proofs.Lists.{all-append}
 use Rattle.rules.specs.Class.{belongs, allOf}
 use Rattle.rules.specs.Number.{numberFrom, number}
-use Rattle.rules.specs.Day.{firstYear, lastYear, leap, monthLengths, monthDays, realDay, dayOf, dayWidth}
+use Rattle.rules.specs.Day.{firstYear, lastYear, leap, monthLengths, monthDays, realDay, dayOf, dayWidth, isDay, dated, dayKept}
 use Rattle.rules.specs.Values.{expectedOf}
-use Rattle.rules.specs.declared.class.Class.the-variants.{Allowed}
+use Rattle.rules.specs.declared.class.Class.the-variants.{Digit, Allowed}
 use Rattle.rules.specs.declared.day.Day.{Day}
+use Rattle.rules.specs.declared.day.Dated.the-variants.{Real}
 use Rattle.rules.specs.declared.expected.Expected.{Expected}
 use Rattle.rules.specs.declared.expected.Expected.the-variants.{On, Zeros, Blanks}
 use Rattle.rules.proofs.Runs.{all-at}
+use Rattle.rules.proofs.Days.{dated-real}
 use Rattle.writing.specs.Digits.{digitsOf, unwritable, numberBytes}
 use Rattle.writing.specs.Typed.{dayDigits, dayBytes, isNoDay, deliveryDayBytes, expectedBytes}
-use Rattle.roundtrip.proofs.Sequences.{all-one}
-use Rattle.roundtrip.proofs.DigitsBack.{number-of-digits}
+use Rattle.roundtrip.proofs.DigitsBack.{digits-all, number-of-digits}
 
 -- each byte of a list may stand in a record
 abbrev pub AllAllowed : List ℕ → Type 0
@@ -58,6 +60,15 @@ month-most y m h =
     let p : 13 ≤ m = ltb-false m 13 e in
     absurd (omega (arith, rw (ne-eqb m 2 (λ q. omega arith), List·getD-eq-default monthLengths 0 p) at h)))
 
+-- a day is written as eight digits
+digits-eight : (d : Day) → length (dayDigits d) ≡ dayWidth
+unfolding dayDigits digitsOf
+digits-eight d = refl
+
+digits-only : (d : Day) → allOf Digit (dayDigits d) ≡ true
+unfolding dayDigits allOf
+digits-only d = rw (all-append, digits-all 4 (d .year), all-append, digits-all 2 (d .month), digits-all 2 (d .day))
+
 -- the parts of a real day have no more digits than are written
 module _ (d : Day) (e : realDay d ≡ true) where
   real-year : within firstYear lastYear (d .year) ≡ true
@@ -92,25 +103,18 @@ module _ (d : Day) (e : realDay d ≡ true) where
         day = number-of-digits 2 (d .day) (omega arith) i;
       }
 
-  -- and not one byte over and over that counts nothing, since its year is not 0
-  not-one : (a : ℕ) → dayOf (replicate dayWidth a) .year ≡ 0 → all (λ (b : ℕ). eqb b a) (dayDigits d) ≡ false
-  unfolding dayDigits digitsOf
-  not-one a z =
-      split (all (λ (b : ℕ). eqb b a) (dayDigits d))
-      (λ q.
-      let s : dayDigits d ≡ replicate dayWidth a = all-one a (dayDigits d) q in
-      let y : d .year ≡ dayOf (replicate dayWidth a) .year = ap (λ (x : Day). x .year) (sym digits-of-day ∙ ap dayOf s) in
-      absurd (omega (arith, first-year)))
-      (λ q. q)
+  -- and eight of them, so they are judged to be the day
+  judged-back : dated (dayDigits d) ≡ Real d
+  judged-back = dated-real (dayDigits d) (digits-eight d) (digits-only d) (ap realDay digits-of-day ∙ e) ∙ ap Real digits-of-day
 
 -- a day
-pub day-back : (d : Day) → AllAllowed (dayBytes d) → dayOf (dayBytes d) ≡ d
+pub day-back : (d : Day) → AllAllowed (dayBytes d) → dayKept (dayBytes d) ≡ d
 unfolding dayBytes
-day-back d a = split (realDay d) (λ e. rw e (digits-of-day d e)) (λ e. absurd (not-allowed dayWidth (omega arith) (rw e at a)))
+day-back d a = split (realDay d) (λ e. rw (e, judged-back d e)) (λ e. absurd (not-allowed dayWidth (omega arith) (rw e at a)))
 
 -- the date of a closing record
-no-day-back : (d : Day) → isNoDay d ≡ true → dayOf (replicate dayWidth 48) ≡ d
-unfolding isNoDay dayOf numberFrom
+no-day-back : (d : Day) → isNoDay d ≡ true → dayKept (replicate dayWidth 48) ≡ d
+unfolding isNoDay dated isDay realDay allOf all belongs dayOf numberFrom
 no-day-back d e =
     let y = eqb-true (d .year) 0 (and-left _ (eqb (d .month) 0 && eqb (d .day) 0) e) in
     let r = and-right (eqb (d .year) 0) (eqb (d .month) 0 && eqb (d .day) 0) e in
@@ -119,17 +123,17 @@ no-day-back d e =
     λ i. record { year = sym y i; month = sym m i; day = sym n i }
 
 -- a delivery's date
-pub delivery-day-back : (d : Day) → AllAllowed (deliveryDayBytes d) → dayOf (deliveryDayBytes d) ≡ d
+pub delivery-day-back : (d : Day) → AllAllowed (deliveryDayBytes d) → dayKept (deliveryDayBytes d) ≡ d
 unfolding deliveryDayBytes
 delivery-day-back d a = split (isNoDay d) (λ e. rw e (no-day-back d e)) (λ e. rw e (day-back d (rw e at a)))
 
 -- an expected date
 pub on-back : (d : Day) → realDay d ≡ true → expectedOf (dayDigits d) ≡ On d
-unfolding expectedOf allOf belongs dayOf numberFrom
-on-back d e = rw (not-one d e 48 refl, not-one d e 32 refl) (ap On (digits-of-day d e))
+unfolding expectedOf
+on-back d e = rw (judged-back d e)
 
 pub expected-back : (x : Expected) → AllAllowed (expectedBytes x) → expectedOf (expectedBytes x) ≡ x
-unfolding expectedBytes dayBytes expectedOf allOf all belongs
+unfolding expectedBytes dayBytes expectedOf dated isDay realDay allOf all belongs dayOf numberFrom
 expected-back (On d) a = split (realDay d) (λ e. rw e (on-back d e)) (λ e. absurd (not-allowed dayWidth (omega arith) (rw e at a)))
 expected-back Zeros a = refl
 expected-back Blanks a = refl

@@ -7,7 +7,7 @@ use borrow.Author.Tests.{eq-eqb, ne-eqb}
 use lib.ListN.{length}
 use Rattle.cells.proofs.Bools.{split}
 use Rattle.rules.specs.Class.{allOf}
-use Rattle.rules.specs.Day.{dayOf, realDay, isDay, dated}
+use Rattle.rules.specs.Day.{dayOf, realDay, isDay, dated, dayKept}
 use Rattle.rules.specs.declared.class.Class.the-variants.{Digit}
 use Rattle.rules.specs.declared.day.Day.{Day}
 use Rattle.rules.specs.declared.day.Dated.the-variants.{Real, Unreal}
@@ -33,6 +33,14 @@ module _ (s : List ℕ) where
   pub dated-real : length s ≡ 8 → allOf Digit s ≡ true → realDay (dayOf s) ≡ true → dated s ≡ Real (dayOf s)
   unfolding dated isDay
   dated-real h e f = rw (eq-eqb (length s) 8 h, e, f)
+
+  -- a day is judged to be its own, and kept
+  pub dated-day : isDay s ≡ true → dated s ≡ Real (dayOf s)
+  unfolding dated
+  dated-day e = rw e
+
+  pub kept-day : isDay s ≡ true → dayKept s ≡ dayOf s
+  kept-day e = rw (dated-day e)
 
   -- judged to be a real day, they are a day
   pub real-day : (d : Day) → dated s ≡ Real d → isDay s ≡ true

@@ -47,3 +47,16 @@ isDay s = eqb (length s) dayWidth && (allOf Digit s && realDay (dayOf s))
 -- a day as its constructor judges digits
 unfoldable pub dated : List ℕ → Dated
 dated s = pick (isDay s) (Real (dayOf s)) Unreal
+
+-- the day 0 of month 0 of year 0, which is no real day
+abbrev pub noDay : Day
+noDay = record { year = 0; month = 0; day = 0 }
+
+-- a day as it was judged, and the day 0 where there is none
+abbrev pub dayIn : Dated → Day
+dayIn (Real d) = d
+dayIn Unreal = noDay
+
+-- the day that a typed value keeps: as the constructor judged it, and the day 0 of month 0 of year 0 where there is none
+abbrev pub dayKept : List ℕ → Day
+dayKept s = dayIn (dated s)

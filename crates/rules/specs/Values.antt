@@ -3,9 +3,11 @@ use Prim.Native.Nat.{ℕ}
 use mathlib.Core.List.{List}
 use Rattle.cells.specs.Bytes.{pick}
 use Rattle.rules.specs.Number.{number}
-use Rattle.rules.specs.Day.{dayOf}
+use Rattle.rules.specs.Day.{dated}
 use Rattle.rules.specs.Class.{allOf}
-use Rattle.rules.specs.declared.class.Class.the-variants.{Blank, Zero}
+use Rattle.rules.specs.declared.class.Class.the-variants.{Blank}
+use Rattle.rules.specs.declared.day.Dated.{Dated}
+use Rattle.rules.specs.declared.day.Dated.the-variants.{Real, Unreal}
 use Rattle.rules.specs.declared.amount.Price.{Price}
 use Rattle.rules.specs.declared.amount.Discount.{Discount}
 use Rattle.rules.specs.declared.amount.Copies.{Copies}
@@ -20,9 +22,18 @@ priceOf s = record { 0 = number s }
 abbrev pub discountOf : List ℕ → Discount
 discountOf s = record { 0 = number s }
 
+-- so many copies
+abbrev pub copies : ℕ → Copies
+copies n = record { 0 = n }
+
 abbrev pub copiesOf : List ℕ → Copies
-copiesOf s = record { 0 = number s }
+copiesOf s = copies (number s)
+
+-- an expected date whose digits were judged: a real day is that day; what is none is eight blanks or else eight zeros
+abbrev pub expectedIn : Dated → List ℕ → Expected
+expectedIn (Real d) s = On d
+expectedIn Unreal s = pick (allOf Blank s) Blanks Zeros
 
 -- which of the three an expected date was
 unfoldable pub expectedOf : List ℕ → Expected
-expectedOf s = pick (allOf Zero s) Zeros (pick (allOf Blank s) Blanks (On (dayOf s)))
+expectedOf s = expectedIn (dated s) s

@@ -11,6 +11,8 @@ pub struct Price(pub u64);
 // Ten-thousandths of a percent.
 pub struct Discount(pub u64);
 
+// So many copies; a number of 64 bits for C too.
+#[repr(C)]
 pub struct Copies(pub u64);
 
 pub fn price_of(s: &[u8]) -> Price

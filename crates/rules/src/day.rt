@@ -40,7 +40,7 @@ fn month_days(year: u64, month: u64) -> u64
 }
 
 // The parts of a day in eight digits, whether or not there is such a day.
-pub fn day_parts(s: &[u8]) -> Day
+fn day_parts(s: &[u8]) -> Day
     ensures { λ r. ⌜ r ≡ dayOf (now (s .entry)) ⌝ }
 {
     let year = number_of(part(s, 0, 4));

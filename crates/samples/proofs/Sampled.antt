@@ -6,7 +6,7 @@ use lib.ListN.{replicate, take}
 use Rattle.cells.specs.Bytes.{bytes, all, any, run, same, among}
 use Rattle.rules.specs.Class.{belongs, allOf, ofClass, padded, named}
 use Rattle.rules.specs.Number.{numberFrom}
-use Rattle.rules.specs.Day.{leap, monthDays, realDay, dayOf, isDay}
+use Rattle.rules.specs.Day.{leap, monthDays, realDay, dayOf, isDay, dated as judgedDay}
 use Rattle.rules.specs.Article.{checkValue, weighted, gs1, isbn, seriesVolume, article}
 use Rattle.rules.specs.Rule.{texts, dayCount, expected, keeps}
 use Rattle.rules.specs.Values.{expectedOf}
@@ -64,7 +64,7 @@ pub record Computed : Type 0 where
   pub other : readOrder Y ≡ record { checked = record { answer = 2; place = 0; fields = 0 }; order = noOrder }
 
 pub computed : Computed
-unfolding all any run same among belongs allOf ofClass padded named numberFrom leap monthDays realDay dayOf isDay checkValue weighted gs1 isbn seriesVolume article texts dayCount expected keeps layout total startOf kindOf firstBroken contents isIn ruleIn contentRule guardedIds guarded contentKept groups firstOf nextIn previousIn groupWith nextMember previousMember isWanted groupKept refusalNumber refusalPlace checkedOf _then_ headOf idIn idOf contentWidth contentOf fieldWidth afterField onHead atField walk judge fixedWidth bytesJudged fixedJudged afterWalk optionalJudged kindJudged judged expectedOf fieldsOf entriesOf fieldBytes orderOf deliveryOf reportOf optionalStart optionalFields tableAfter check judgedAs orderFrom readOrder deliveryFrom readDelivery reportFrom readReport titled fullTable shortTable cases recordEdges orderEdges deliveryEdges walkEdges contentEdges groupEdges readingOf firstWrong
+unfolding all any run same among belongs allOf ofClass padded named numberFrom leap monthDays realDay dayOf isDay judgedDay checkValue weighted gs1 isbn seriesVolume article texts dayCount expected keeps layout total startOf kindOf firstBroken contents isIn ruleIn contentRule guardedIds guarded contentKept groups firstOf nextIn previousIn groupWith nextMember previousMember isWanted groupKept refusalNumber refusalPlace checkedOf _then_ headOf idIn idOf contentWidth contentOf fieldWidth afterField onHead atField walk judge fixedWidth bytesJudged fixedJudged afterWalk optionalJudged kindJudged judged expectedOf fieldsOf entriesOf fieldBytes orderOf deliveryOf reportOf optionalStart optionalFields tableAfter check judgedAs orderFrom readOrder deliveryFrom readDelivery reportFrom readReport titled fullTable shortTable cases recordEdges orderEdges deliveryEdges walkEdges contentEdges groupEdges readingOf firstWrong
 computed = record {
   samples = refl;
   records = refl;

@@ -3,7 +3,7 @@ use mathlib.Core.Path.{_≡_, refl}
 use Rattle.cells.specs.Bytes.{all, any, run, same, among}
 use Rattle.rules.specs.Class.{belongs, allOf, ofClass, padded, named}
 use Rattle.rules.specs.Number.{numberFrom}
-use Rattle.rules.specs.Day.{leap, monthDays, realDay, dayOf, isDay}
+use Rattle.rules.specs.Day.{leap, monthDays, realDay, dayOf, isDay, dated}
 use Rattle.rules.specs.Article.{checkValue, weighted, gs1, isbn, seriesVolume, article}
 use Rattle.rules.specs.Rule.{texts, dayCount, expected, keeps}
 use Rattle.rules.specs.Values.{expectedOf}
@@ -21,5 +21,5 @@ pub record Computed : Type 0 where
   pub typed : firstWrong 1 typedCases ≡ 0
 
 pub computed : Computed
-unfolding all any run same among belongs allOf ofClass padded named numberFrom leap monthDays realDay dayOf isDay checkValue weighted gs1 isbn seriesVolume article texts dayCount expected keeps expectedOf layout total fixedWidth startOf kindOf firstBroken contents isIn ruleIn contentRule guardedIds guarded contentKept groups firstOf nextIn previousIn groupWith nextMember previousMember isWanted groupKept fieldBytes orderOf deliveryOf reportOf digitsOf unwritable numberBytes refusalNumber refusalPlace writtenOf _then_ fieldHolding firstFaulty fixedJudged entryOf entries contentIn optionalIn optionalOf inside writable nextId entryKept fieldsJudged fieldText optionalText recordText lengthJudged restJudged writeJudged outputAfter write dayDigits dayBytes isNoDay deliveryDayBytes expectedBytes joined orderFields deliveryFields reportFields orderBytes deliveryBytes reportBytes writeCases typedCases firstWrong
+unfolding all any run same among belongs allOf ofClass padded named numberFrom leap monthDays realDay dayOf isDay dated checkValue weighted gs1 isbn seriesVolume article texts dayCount expected keeps expectedOf layout total fixedWidth startOf kindOf firstBroken contents isIn ruleIn contentRule guardedIds guarded contentKept groups firstOf nextIn previousIn groupWith nextMember previousMember isWanted groupKept fieldBytes orderOf deliveryOf reportOf digitsOf unwritable numberBytes refusalNumber refusalPlace writtenOf _then_ fieldHolding firstFaulty fixedJudged entryOf entries contentIn optionalIn optionalOf inside writable nextId entryKept fieldsJudged fieldText optionalText recordText lengthJudged restJudged writeJudged outputAfter write dayDigits dayBytes isNoDay deliveryDayBytes expectedBytes joined orderFields deliveryFields reportFields orderBytes deliveryBytes reportBytes writeCases typedCases firstWrong
 computed = record { writes = refl; typed = refl }

@@ -2,6 +2,7 @@
 ghost use mathlib.Core.Path.{_≡_};
 ghost use Prim.Native.Nat.{_+_, _*_, _≤_, _<_};
 ghost use lib.ListN.{length, getD, take};
+ghost use Rattle.rules.specs.Values.{copies};
 ghost use Rattle.entry.specs.Stored.{keyWidth, slipKeyWidth};
 ghost use Rattle.save.specs.Entries.{isFirst, copiesOn, arrivedOn, linesKept, slipsKept, sumsKept};
 ghost use Rattle.save.specs.Saved.{savedLineWidth, savedSlipWidth, lineIn, slipIn, allOfKind, inForm, isSave};
@@ -19,6 +20,7 @@ use entry::stored::SLIP_COPIES_AT;
 use entry::stored::SLIP_KEY_TELLS;
 use entry::stored::SLIP_KEY_WIDTH;
 use entry::stored::SLIP_WIDTH;
+use rules::amount::Copies;
 
 pub const END_WIDTH: usize = 5;
 
@@ -96,29 +98,29 @@ fn is_first_slip(s: &[u8], n: usize, j: usize) -> bool
 }
 
 // The copies of a slip where it names the line at i, else none.
-fn copies_on(s: &[u8], n: usize, j: usize, i: usize) -> u64
+fn copies_on(s: &[u8], n: usize, j: usize, i: usize) -> Copies
     requires { ⌜ savedLineWidth * n + savedSlipWidth * j + savedSlipWidth ≤ length (now s) ⌝ }
-    ensures { λ r. ⌜ (r ≡ copiesOn (slipIn (now (s .entry)) n) i j) × (r < 65536) ⌝ }
+    ensures { λ r. ⌜ (r ≡ copies (copiesOn (slipIn (now (s .entry)) n) i j)) × (r .0 < 65536) ⌝ }
 {
     let at = SAVED_LINE_WIDTH * n + SAVED_SLIP_WIDTH * j + 1;
     if get2(s, at + SLIP_KEY_WIDTH) as usize == i {
-        return get2(s, at + SLIP_COPIES_AT);
+        return Copies(get2(s, at + SLIP_COPIES_AT));
     }
-    0
+    Copies(0)
 }
 
 // A of the line at i: the sum of the m slips that name it.
-pub fn arrived_on(s: &[u8], n: usize, m: usize, i: usize) -> u64
+pub fn arrived_on(s: &[u8], n: usize, m: usize, i: usize) -> Copies
     requires { ⌜ (savedLineWidth * n + savedSlipWidth * m ≤ length (now s)) × (m < 65536) ⌝ }
-    ensures { λ r. ⌜ r ≡ arrivedOn (slipIn (now (s .entry)) n) m i ⌝ }
+    ensures { λ r. ⌜ r ≡ copies (arrivedOn (slipIn (now (s .entry)) n) m i) ⌝ }
 {
     let mut sum: u64 = 0;
     let mut j: usize = 0;
     while j < m {
-        sum += copies_on(s, n, j, i);
+        sum += copies_on(s, n, j, i).0;
         j += 1;
     }
-    sum
+    Copies(sum)
 }
 
 // Whether the n lines keep the rules, each with a key of its own.
@@ -158,7 +160,7 @@ fn are_sums_kept(s: &[u8], n: usize, m: usize) -> bool
 {
     let mut i: usize = 0;
     while i < n {
-        if MOST_ARRIVED < arrived_on(s, n, m, i) {
+        if MOST_ARRIVED < arrived_on(s, n, m, i).0 {
             return false;
         }
         i += 1;

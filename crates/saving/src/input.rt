@@ -24,7 +24,7 @@ pub fn take_lines(saved: &[u8], n: usize, m: usize, lines: &mut [u8])
     while i < n {
         let at = LINE_WIDTH * i;
         paste_at(lines, at, line_in(saved, i));
-        put4(lines, at + ARRIVED_AT, arrived_on(saved, n, m, i));
+        put4(lines, at + ARRIVED_AT, arrived_on(saved, n, m, i).0);
         i += 1;
     }
 }

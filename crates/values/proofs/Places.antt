@@ -7,7 +7,7 @@ use native.Mathlib.Omega.{arith}
 use lib.ListN.{getD}
 use lib.Seq.{slice, getD-take, getD-drop}
 use Rattle.rules.specs.Number.{number}
-use Rattle.rules.specs.Day.{dayOf}
+use Rattle.rules.specs.Day.{dayKept}
 use Rattle.rules.specs.Values.{priceOf, discountOf, copiesOf, expectedOf}
 use Rattle.record.specs.Layout.{layout, total, startOf, fixedWidth}
 use Rattle.record.specs.Values.{fieldBytes, orderOf, deliveryOf, reportOf}
@@ -46,7 +46,7 @@ ArticleAt p a b c s = (p .number ≡ slice a b s) × (p .qualifier ≡ slice b c
 pub order-made : (s : List ℕ) {o : Order}
     → PartyAt (o .sender) 4 14 16 s
     → PartyAt (o .recipient) 16 26 28 s
-    → o .date ≡ dayOf (slice 28 36 s)
+    → o .date ≡ dayKept (slice 28 36 s)
     → o .reference ≡ slice 36 46 s
     → ArticleAt (o .article) 46 59 61 s
     → o .quantity ≡ copiesOf (slice 61 65 s)
@@ -67,7 +67,7 @@ order-made s sender recipient date reference article quantity measure = λ i. re
 pub delivery-made : (s : List ℕ) {d : Delivery}
     → PartyAt (d .sender) 4 14 16 s
     → PartyAt (d .recipient) 16 26 28 s
-    → d .date ≡ dayOf (slice 28 36 s)
+    → d .date ≡ dayKept (slice 28 36 s)
     → d .slip ≡ slice 36 46 s
     → d .position ≡ slice 46 50 s
     → d .reference ≡ slice 50 60 s

@@ -3,8 +3,9 @@ ghost use mathlib.Core.Path.{_≡_};
 ghost use Prim.Native.Nat.{_+_, _≤_};
 ghost use lib.ListN.{length};
 ghost use lib.Seq.{slice};
+ghost use Rattle.rules.specs.Day.{noDay, dayKept};
 ghost use Rattle.record.specs.Layout.{fixedWidth};
-ghost use Rattle.record.specs.Values.{orderOf, deliveryOf, reportOf, noParty, noArticle, noDay, noOrder, noDelivery, noReport};
+ghost use Rattle.record.specs.Values.{orderOf, deliveryOf, reportOf, noParty, noArticle, noOrder, noDelivery, noReport};
 use cells::part;
 use cells::paste_at;
 use record::layout::Kind;
@@ -19,8 +20,8 @@ use rules::amount::Price;
 use rules::amount::copies_of;
 use rules::amount::discount_of;
 use rules::amount::price_of;
+use rules::day::Dated;
 use rules::day::Day;
-use rules::day::day_parts;
 use rules::expected::Expected;
 use rules::expected::expected_of;
 use rules::number::number_of;
@@ -140,6 +141,26 @@ fn article_at(s: &[u8], at: usize) -> Article
     Article { number, qualifier }
 }
 
+fn no_day() -> Day
+    ensures { λ r. ⌜ r ≡ noDay ⌝ }
+{
+    Day {
+        year: 0,
+        month: 0,
+        day: 0,
+    }
+}
+
+// The day of a field as the constructor judged it; the day 0 of month 0 of year 0 where it holds none.
+fn day_of(s: &[u8]) -> Day
+    ensures { λ r. ⌜ r ≡ dayKept (now (s .entry)) ⌝ }
+{
+    match Day::of_digits(s) {
+        Dated::Real(day) => day,
+        Dated::Unreal => no_day(),
+    }
+}
+
 // The values of a B101.
 pub fn order_of(s: &[u8]) -> Order
     requires { ⌜ fixedWidth Kind.Order ≤ length (now s) ⌝ }
@@ -147,7 +168,7 @@ pub fn order_of(s: &[u8]) -> Order
 {
     let sender = party_at(s, SENDER);
     let recipient = party_at(s, RECIPIENT);
-    let date = day_parts(part(s, DATE, ORDER_REFERENCE));
+    let date = day_of(part(s, DATE, ORDER_REFERENCE));
     let reference = bytes10(s, ORDER_REFERENCE);
     let article = article_at(s, ORDER_ARTICLE);
     let quantity = copies_of(part(s, ORDER_QUANTITY, ORDER_MEASURE));
@@ -170,7 +191,7 @@ pub fn delivery_of(s: &[u8]) -> Delivery
 {
     let sender = party_at(s, SENDER);
     let recipient = party_at(s, RECIPIENT);
-    let date = day_parts(part(s, DATE, SLIP));
+    let date = day_of(part(s, DATE, SLIP));
     let slip = bytes10(s, SLIP);
     let position = bytes4(s, POSITION);
     let reference = bytes10(s, REFERENCE);
@@ -238,16 +259,6 @@ fn no_article() -> Article
     Article {
         number: [0u8; 13],
         qualifier: [0u8; 2],
-    }
-}
-
-fn no_day() -> Day
-    ensures { λ r. ⌜ r ≡ noDay ⌝ }
-{
-    Day {
-        year: 0,
-        month: 0,
-        day: 0,
     }
 }
 

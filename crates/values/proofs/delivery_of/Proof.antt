@@ -16,8 +16,8 @@ party-at-requires-2 c κs = omega (arith, delivery-width)
 part-requires : tie.Need-part-requires
 part-requires c κs = search needs
 
-day-parts-requires : tie.Need-day-parts-requires
-day-parts-requires c κs = search needs
+day-of-requires : tie.Need-day-of-requires
+day-of-requires c κs = search needs
 
 bytes10-requires : tie.Need-bytes10-requires
 bytes10-requires c κs = omega (arith, delivery-width)
@@ -75,7 +75,7 @@ returns c =
     delivery-made _
     (sender .party-at .ensures)
     (recipient .party-at2 .ensures)
-    (rw (date .before .part .ensures) at (date .day-parts .ensures))
+    (rw (date .before .part .ensures) at (date .day-of .ensures))
     (slip .bytes10 .ensures)
     (position .bytes4 .ensures)
     (reference .bytes102 .ensures)
@@ -94,7 +94,7 @@ delivery-of-spec =
     party-at-requires
     party-at-requires-2
     part-requires
-    day-parts-requires
+    day-of-requires
     bytes10-requires
     bytes4-requires
     bytes10-requires-2

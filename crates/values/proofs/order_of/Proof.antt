@@ -15,8 +15,8 @@ party-at-requires-2 c κs = omega (arith, order-width)
 part-requires : tie.Need-part-requires
 part-requires c κs = search needs
 
-day-parts-requires : tie.Need-day-parts-requires
-day-parts-requires c κs = search needs
+day-of-requires : tie.Need-day-of-requires
+day-of-requires c κs = search needs
 
 bytes10-requires : tie.Need-bytes10-requires
 bytes10-requires c κs = omega (arith, order-width)
@@ -44,7 +44,7 @@ returns c =
     order-made _
     (sender .party-at .ensures)
     (recipient .party-at2 .ensures)
-    (rw (date .before .part .ensures) at (date .day-parts .ensures))
+    (rw (date .before .part .ensures) at (date .day-of .ensures))
     (reference .bytes10 .ensures)
     (article .article-at .ensures)
     (rw (quantity .before .part2 .ensures) at (quantity .copies-of .ensures))
@@ -57,7 +57,7 @@ order-of-spec =
     party-at-requires
     party-at-requires-2
     part-requires
-    day-parts-requires
+    day-of-requires
     bytes10-requires
     article-at-requires
     part-requires-2

@@ -3,7 +3,7 @@ use mathlib.Core.Path.{sym, _∙_}
 use native.Mathlib.Omega.{arith}
 use Rattle.rules.proofs.Parts.{part-most}
 use Rattle.book.proofs.Finds.{lines-stand, line-search}
-use Rattle.book.proofs.Stages.{order-copies, order-blank, some-copies, order-none, order-unnamed, order-exists, order-fits, order-full}
+use Rattle.book.proofs.Stages.{order-copies, order-blank, none-copies, some-copies, order-none, order-unnamed, order-exists, order-fits, order-full}
 use borrow.Author.Needs.{needs}
 use Rattle.book.proofs.judge.judge_order.Statement.{statement}
 use Rattle.book.proofs.judge.judge_order.Tie as tie
@@ -11,13 +11,13 @@ use Rattle.book.proofs.judge.judge_order.Tie as tie
 part-requires : tie.Need-part-requires
 part-requires c κs = search needs
 
-number-of-requires : tie.Need-number-of-requires
-number-of-requires c κs = rw (c .part .ensures) (omega (arith, part-most 61 65 (c .before .before .before .before .args .s .now)))
+copies-of-requires : tie.Need-copies-of-requires
+copies-of-requires c κs = rw (c .part .ensures) (omega (arith, part-most 61 65 (c .before .before .before .before .args .s .now)))
 
 returns : tie.Need-returns
 returns c =
-    let n = c .before in
-    sym (order-none _ _ (sym (order-copies _ (n .number-of .ensures) (n .before .part .ensures)) ∙ c .if1 .taken))
+    let n = c .before .before in
+    sym (order-none _ _ (none-copies (order-copies _ (n .copies-of .ensures) (n .before .part .ensures)) (c .if1 .taken)))
 
 part-requires-2 : tie.Need-part-requires-2
 part-requires-2 c κs = search needs
@@ -31,7 +31,7 @@ returns-2 c =
     let e = blank .before .before in
     sym
     (order-unnamed _ _
-    (some-copies (order-copies _ (e .before .number-of .ensures) (e .before .before .part .ensures)) (e .if1 .left))
+    (some-copies (order-copies _ (e .before .before .copies-of .ensures) (e .before .before .before .part .ensures)) (e .if1 .left))
     (sym (order-blank _ (blank .all-of .ensures) (blank .before .part2 .ensures)) ∙ c .if2 .taken))
 
 element-copy-out-count : tie.Need-element-copy-out-count
@@ -44,7 +44,7 @@ slice-aggregate-find-line : tie.Need-slice-aggregate-find-line
 slice-aggregate-find-line c = search needs
 
 find-line-requires : tie.Need-find-line-requires
-find-line-requires c κs = lines-stand _ _ _ (c .before .before .before .before .before .before .before .before .before .before .before .before .pre .0)
+find-line-requires c κs = lines-stand _ _ _ (c .before .before .before .before .before .before .before .before .before .before .before .before .before .pre .0)
 
 enum-told : tie.Need-enum-told
 enum-told c = search needs
@@ -59,7 +59,7 @@ returns-3 c =
     let e = named .before .before .before in
     sym
     (order-exists _ _
-    (some-copies (order-copies _ (e .before .number-of .ensures) (e .before .before .part .ensures)) (e .if1 .left))
+    (some-copies (order-copies _ (e .before .before .copies-of .ensures) (e .before .before .before .part .ensures)) (e .if1 .left))
     (sym (order-blank _ (named .before .all-of .ensures) (named .before .before .part2 .ensures)) ∙ named .if2 .left)
     _ (line-search _ _ _ _ (find .find-line .ensures) (find .before .before .order-key .ensures) (c .enum-told .given .1)))
 
@@ -70,7 +70,7 @@ returns-4 c =
     let e = named .before .before .before in
     sym
     (order-fits _ _
-    (some-copies (order-copies _ (e .before .number-of .ensures) (e .before .before .part .ensures)) (e .if1 .left))
+    (some-copies (order-copies _ (e .before .before .copies-of .ensures) (e .before .before .before .part .ensures)) (e .if1 .left))
     (sym (order-blank _ (named .before .all-of .ensures) (named .before .before .part2 .ensures)) ∙ named .if2 .left)
     (line-search _ _ _ _ (find .find-line .ensures) (find .before .before .order-key .ensures) (c .before .enum-told2 .given .1))
     (c .if3 .taken))
@@ -82,7 +82,7 @@ returns-5 c =
     let e = named .before .before .before in
     sym
     (order-full _ _
-    (some-copies (order-copies _ (e .before .number-of .ensures) (e .before .before .part .ensures)) (e .if1 .left))
+    (some-copies (order-copies _ (e .before .before .copies-of .ensures) (e .before .before .before .part .ensures)) (e .if1 .left))
     (sym (order-blank _ (named .before .all-of .ensures) (named .before .before .part2 .ensures)) ∙ named .if2 .left)
     (line-search _ _ _ _ (find .find-line .ensures) (find .before .before .order-key .ensures) (c .before .enum-told2 .given .1))
     (c .if3 .left))
@@ -92,7 +92,7 @@ judge-order-spec =
     tie.close
     (tie.spec
     part-requires
-    number-of-requires
+    copies-of-requires
     returns
     part-requires-2
     all-of-requires

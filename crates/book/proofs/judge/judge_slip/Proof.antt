@@ -16,12 +16,12 @@ slip-copies-requires c κs = search needs
 
 returns : tie.Need-returns
 returns c =
-    let m = c .before in
+    let m = c .before .before .before in
     sym (slip-same _ _ _ _ (rw (m .before .key-is .ensures, m .before .before .slip-line .ensures, m .slip-copies .ensures) at (c .if1 .taken)))
 
 returns-2 : tie.Need-returns-2
 returns-2 c =
-    let m = c .before in
+    let m = c .before .before .before in
     sym (slip-other _ _ _ _ (rw (m .before .key-is .ensures, m .before .before .slip-line .ensures, m .slip-copies .ensures) at (c .if1 .left)))
 
 pub judge-slip-spec : {M : Type 1} → statement M

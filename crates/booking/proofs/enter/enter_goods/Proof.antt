@@ -10,8 +10,8 @@ use Rattle.booking.proofs.enter.enter_goods.Tie as tie
 part-requires : tie.Need-part-requires
 part-requires c κs = search needs
 
-number-of-requires : tie.Need-number-of-requires
-number-of-requires c κs = rw (c .part .ensures) (omega (arith, part-most 75 79 (c .before .before .before .before .args .s .now)))
+copies-of-requires : tie.Need-copies-of-requires
+copies-of-requires c κs = rw (c .part .ensures) (omega (arith, part-most 75 79 (c .before .before .before .before .args .s .now)))
 
 read-line-requires : tie.Need-read-line-requires
 read-line-requires c κs = search needs
@@ -19,7 +19,7 @@ read-line-requires c κs = search needs
 with-arrivals-requires : tie.Need-with-arrivals-requires
 with-arrivals-requires c κs =
     let number = c .before .before in
-    let copies = goods-copies (c .before .before .before .before .before .before .before .args .s .now) (number .number-of .ensures) (number .before .part .ensures) in
+    let copies = goods-copies (c .before .before .before .before .before .before .before .args .s .now) (number .copies-of .ensures) (number .before .part .ensures) in
     rw (c .read-line .ensures, copies) (omega (arith, c .before .before .before .before .before .before .before .pre .4))
 
 write-line-requires : tie.Need-write-line-requires
@@ -35,7 +35,7 @@ write-slip-requires : tie.Need-write-slip-requires
 write-slip-requires c κs = (rw (c .slip-key .ensures) (slip-key-width _ (c .before .before .before .before .before .before .before .before .before .before .before .before .before .before .before .pre .0)), c .before .before .before .before .before .before .before .before .before .before .before .before .before .before .before .pre .2)
 
 add-used : tie.Need-add-used
-add-used c = search needs
+add-used c = record { fits = omega (arith, c .before .before .before .before .before .before .before .before .before .before .before .before .before .before .before .before .before .before .pre .3) }
 
 element-write-used : tie.Need-element-write-used
 element-write-used c = search needs
@@ -55,7 +55,7 @@ returns c =
     let write = slip .before .before .before .before .before .before in
     let line = write .before .before in
     let number = line .before .before .before in
-    let copies = goods-copies _ (number .number-of .ensures) (number .before .part .ensures) in
+    let copies = goods-copies _ (number .copies-of .ensures) (number .before .part .ensures) in
     rw (c .done .ensures, slip .write-slip .ensures, slip .before .slip-key .ensures, write .write-line .ensures, line .with-arrivals .ensures, line .before .read-line .ensures, copies) (goods-entered _ _ _ _ _)
 
 pub enter-goods-spec : {M : Type 1} → statement M
@@ -63,7 +63,7 @@ enter-goods-spec =
     tie.close
     (tie.spec
     part-requires
-    number-of-requires
+    copies-of-requires
     read-line-requires
     with-arrivals-requires
     write-line-requires

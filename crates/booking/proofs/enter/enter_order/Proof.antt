@@ -10,8 +10,8 @@ use Rattle.booking.proofs.enter.enter_order.Tie as tie
 part-requires : tie.Need-part-requires
 part-requires c κs = search needs
 
-number-of-requires : tie.Need-number-of-requires
-number-of-requires c κs = rw (c .part .ensures) (omega (arith, part-most 61 65 (c .before .before .before .before .args .s .now)))
+copies-of-requires : tie.Need-copies-of-requires
+copies-of-requires c κs = rw (c .part .ensures) (omega (arith, part-most 61 65 (c .before .before .before .before .args .s .now)))
 
 new-line-requires : tie.Need-new-line-requires
 new-line-requires c κs = search needs
@@ -45,7 +45,7 @@ returns c =
     let write = c .before .before .before .before in
     let key = write .before .before .before in
     let number = key .before .before in
-    let copies = order-copies _ (number .number-of .ensures) (number .before .part .ensures) in
+    let copies = order-copies _ (number .copies-of .ensures) (number .before .part .ensures) in
     rw (c .done .ensures, write .write-new-line .ensures, key .order-key .ensures, key .before .new-line .ensures, copies) (order-entered _ _ _ _ _)
 
 pub enter-order-spec : {M : Type 1} → statement M
@@ -53,7 +53,7 @@ enter-order-spec =
     tie.close
     (tie.spec
     part-requires
-    number-of-requires
+    copies-of-requires
     new-line-requires
     order-key-requires
     slice-aggregate-write-new-line

@@ -15,7 +15,7 @@ get2-requires c κs = search needs
 
 returns : tie.Need-returns
 unfolding slipCopiesAt
-returns c = c .get2 .ensures .is
+returns c = rw (c .get2 .ensures .is)
 
 pub slip-copies-spec : {M : Type 1} → statement M
 slip-copies-spec = tie.close (tie.spec mul-get2 add-get2 get2-requires returns)

@@ -35,8 +35,8 @@ arrived-on-requires c κs = search needs
 
 returns : tie.Need-returns Inv-loop μ-loop
 returns c =
-    let l = c .before .before .before in
-    sym (l .loop .inv .1 ∙ all-here _ _ (l .loop .i) (omega arith) (rw (← c .before .arrived-on .ensures) (lt-leb _ _ (c .if1 .taken))))
+    let l = c .before .before .before .before in
+    sym (l .loop .inv .1 ∙ all-here _ _ (l .loop .i) (omega arith) (rw (c .before .before .arrived-on .ensures) at (lt-leb _ _ (c .if1 .taken))))
 
 add-i : tie.Need-add-i Inv-loop μ-loop
 add-i c = omega arith
@@ -46,8 +46,8 @@ loop-less c = omega arith
 
 loop-again : tie.Need-loop-again Inv-loop μ-loop
 loop-again c =
-    let l = c .before .before .before in
-    (omega arith, l .loop .inv .1 ∙ all-next _ _ (l .loop .i) (omega arith) (rw (← c .before .arrived-on .ensures) (le-leb _ _ (c .if1 .left))))
+    let l = c .before .before .before .before in
+    (omega arith, l .loop .inv .1 ∙ all-next _ _ (l .loop .i) (omega arith) (rw (c .before .before .arrived-on .ensures) at (le-leb _ _ (c .if1 .left))))
 
 returns-2 : tie.Need-returns-2 Inv-loop μ-loop
 returns-2 c = sym (c .before .loop .inv .1 ∙ all-end _ _ (c .before .loop .i) (omega arith))

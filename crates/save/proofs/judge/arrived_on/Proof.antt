@@ -3,6 +3,7 @@ use mathlib.Core.Path.{_≡_, _∙_, sym}
 use Prim.Native.Nat.{_+_, _*_, _≤_, _-_}
 use native.Mathlib.Omega.{arith}
 use native.Mathlib.Nat.{sub-zero, zero-add}
+use Rattle.rules.specs.Values.{copies}
 use Rattle.save.specs.Entries.{sumFrom, copiesOn, arrivedOn}
 use Rattle.save.specs.Saved.{slipIn}
 use Rattle.save.proofs.Sums.{sum-next, sum-end}
@@ -24,7 +25,7 @@ copies-on-requires : tie.Need-copies-on-requires Inv-loop μ-loop
 copies-on-requires c κs = omega arith
 
 add-sum : tie.Need-add-sum Inv-loop μ-loop
-add-sum c = omega (arith, c .copies-on .ensures .1)
+add-sum c = omega (arith, c .before .copies-on .ensures .1)
 
 add-j : tie.Need-add-j Inv-loop μ-loop
 add-j c = omega arith
@@ -34,14 +35,14 @@ loop-less c = omega arith
 
 loop-again : tie.Need-loop-again Inv-loop μ-loop
 loop-again c =
-    let l = c .before .before in (
+    let l = c .before .before .before in (
       omega arith,
-      omega (arith, c .copies-on .ensures .1),
-      rw (c .copies-on .ensures .0) (l .loop .inv .2 ∙ sum-next _ _ (l .loop .j) (l .loop .sum) (omega arith)),
+      omega (arith, c .before .copies-on .ensures .1),
+      rw (c .before .copies-on .ensures .0) (l .loop .inv .2 ∙ sum-next _ _ (l .loop .j) (l .loop .sum) (omega arith)),
     )
 
 returns : tie.Need-returns Inv-loop μ-loop
-returns c = sym (c .before .loop .inv .2 ∙ sum-end _ _ (c .before .loop .j) _ (omega arith))
+returns c = λ x. copies (sym (c .before .loop .inv .2 ∙ sum-end _ _ (c .before .loop .j) _ (omega arith)) x)
 
 pub arrived-on-spec : {M : Type 1} → statement M
 arrived-on-spec =

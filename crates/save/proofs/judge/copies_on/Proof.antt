@@ -38,7 +38,7 @@ returns c =
     let is = c .get22 .ensures in
     let first = c .before .before in
     let a = first .before .before .args in
-    (rw (slip-number (a .s .now) (a .n) (a .j) 46 (omega arith), slip-number (a .s .now) (a .n) (a .j) 48 (omega arith), eq-eqb _ (a .i) (sym (first .get2 .ensures .is) ∙ c .before .if1 .taken)) (is .is), is .small)
+    (rw (slip-number (a .s .now) (a .n) (a .j) 46 (omega arith), slip-number (a .s .now) (a .n) (a .j) 48 (omega arith), eq-eqb _ (a .i) (sym (first .get2 .ensures .is) ∙ c .before .if1 .taken), is .is), is .small)
 
 returns-2 : tie.Need-returns-2
 unfolding copiesOn lineIndex slipCopies

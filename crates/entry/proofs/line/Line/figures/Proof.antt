@@ -1,4 +1,5 @@
 -- `entry::line::Line::figures` meets its contract: each figure is what its function ensures.
+use native.Mathlib.Omega.{arith}
 use Rattle.entry.specs.Line.{figuresOf, filledOf}
 use borrow.Author.Needs.{needs}
 use Rattle.entry.proofs.line.Line.figures.Statement.{statement}
@@ -7,8 +8,8 @@ use Rattle.entry.proofs.line.Line.figures.Tie as tie
 smaller-requires : tie.Need-smaller-requires
 smaller-requires c κs = search needs
 
-sub-left : tie.Need-sub-left
-sub-left c = search needs
+sub-t10 : tie.Need-sub-t10
+sub-t10 c = rw (c .before .before .smaller .ensures) (omega arith)
 
 open-of-requires : tie.Need-open-of-requires
 open-of-requires c κs = search needs
@@ -16,14 +17,16 @@ open-of-requires c κs = search needs
 let-go-of-requires : tie.Need-let-go-of-requires
 let-go-of-requires c κs = search needs
 
-sub-t9 : tie.Need-sub-t9
-sub-t9 c = search needs
+sub-t10-2 : tie.Need-sub-t10-2
+sub-t10-2 c = rw (c .before .before .before .before .before .before .smaller .ensures) (omega arith)
 
 returns : tie.Need-returns
 unfolding figuresOf filledOf
-returns c = rw (c .let-go-of .ensures, c .before .open-of .ensures, c .before .before .smaller .ensures)
+returns c =
+    let l = c .before .before in
+    rw (l .let-go-of .ensures, l .before .open-of .ensures, l .before .before .before .before .smaller .ensures)
 
 pub figures-spec : {M : Type 1} → statement M
 figures-spec =
     tie.close
-    (tie.spec smaller-requires sub-left open-of-requires let-go-of-requires sub-t9 returns)
+    (tie.spec smaller-requires sub-t10 open-of-requires let-go-of-requires sub-t10-2 returns)
