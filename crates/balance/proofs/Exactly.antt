@@ -13,6 +13,7 @@ use Rattle.cells.proofs.Lists.{same-refl, same-true}
 use Rattle.record.specs.declared.layout.Kind.{Kind}
 use Rattle.record.specs.declared.layout.Kind.the-variants.{Order, Goods, Closing, Report}
 use Rattle.entry.specs.Stored.{mostArrived, lineAt, keyAt, keyIs, slipKeyAt, slipIs}
+use Rattle.roundtrip.proofs.ReadExactly.{fits-record, record-fits}
 use Rattle.book.specs.Lent.{Lent, usedLines, usedSlips, lineRoom, slipRoom, findLine, findSlip}
 use Rattle.book.specs.Booking.{lineKey, slipKey, copiesIn, nothingToBook, noCopies, noReference, orderJudged, arrivalJudged, goodsJudged, deliveryJudged, reportJudged, bookJudged, fitJudged, book}
 use Rattle.book.specs.declared.seek.Found.the-variants.{At, Nothing}
@@ -90,7 +91,7 @@ module _ (s : List ℕ) (b : Lent) where
   unfolding bookJudged orderJudged deliveryJudged goodsJudged arrivalJudged reportJudged verdictNumber
   passes-fits Order p = rw (no-line-is b (lineKey Order s) (p .new), lt-ltb (usedLines b) (lineRoom b) (p .room)) refl
   passes-fits Goods p =
-      rw (no-slip-is b (slipKey s) (p .new), line-is b (lineKey Goods s) (p .line) (p .there), le-leb (lineAt (b .lines) (p .line) .arrived + copiesIn Goods s) mostArrived (p .limit), lt-ltb (usedSlips b) (slipRoom b) (p .room)) refl
+      rw (no-slip-is b (slipKey s) (p .new), line-is b (lineKey Goods s) (p .line) (p .there), le-leb (lineAt (b .lines) (p .line) .arrived .0 + copiesIn Goods s .0) mostArrived (p .limit), lt-ltb (usedSlips b) (slipRoom b) (p .room)) refl
   passes-fits Closing p = absurd p
   passes-fits Report p = rw (line-is b (lineKey Report s) (p .line) (p .there)) refl
 
@@ -104,7 +105,7 @@ acceptable s b a =
     let three = passed (noReference k s) _ _ (a .place) (two .1) in
     record {
       is-sound = a .is-sound;
-      is-read = (a .fields, a .read);
+      is-record = fits-record s (a .fields) (a .read);
       kind = k;
       named = a .known;
       something = one .0;
@@ -119,7 +120,8 @@ accepted-exactly s b =
     record {
       only-acceptable = λ e. go e (refused-or-accepted s b);
       all-acceptable = λ a.
-          fit-answer s b (a .is-read .0) (a .kind) (a .is-sound) (a .is-read .1) (a .named) (a .something) (a .copies) (a .referenced)
+          let r = record-fits s (a .is-record) in
+          fit-answer s b (r .0) (a .kind) (a .is-sound) (r .1) (a .named) (a .something) (a .copies) (a .referenced)
           ∙ passes-fits s b (a .kind) (a .passes);
     }
   where

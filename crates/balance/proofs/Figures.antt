@@ -93,7 +93,7 @@ module _ (s : List ℕ) (b : Lent) (i : ℕ) where
   unfolding lineAfter newLine fitAs enter lineWith lineOf reportOf
   said-order e =
       let key : Key = lineKey Order s in
-      let l : Line = newTold key (record { copies = copiesIn Order s }) in
+      let l : Line = newTold key (record { copies = copiesIn Order s .0 }) in
       done-told key (newLine (copiesIn Order s))
       ∙ ap saysOf (sym (first-added (λ (x : Line). same key (x .key)) (told b .lines) l (no-line b key e) (same-refl key)))
 
@@ -110,7 +110,7 @@ module _ (s : List ℕ) (b : Lent) (i : ℕ) where
       → doneAs (lineAfter Goods s b i) ≡ saysOf (lineWith (lineKey Goods s) (enter (told b) (fitAs Goods s) .lines))
   unfolding lineAfter fitAs enter
   said-goods e =
-      said-changed (lineKey Goods s) (withArrivals (copiesIn Goods s) (lineAt (b .lines) i)) (arrive (copiesIn Goods s)) (arrive-key (copiesIn Goods s)) e
+      said-changed (lineKey Goods s) (withArrivals (copiesIn Goods s) (lineAt (b .lines) i)) (arrive (copiesIn Goods s .0)) (arrive-key (copiesIn Goods s .0)) e
       (line-arrives (b .lines) i (copiesIn Goods s))
 
   said-report : findLine b (lineKey Report s) ≡ At i

@@ -7,6 +7,7 @@ use Prim.Native.Nat.{ℕ}
 use native.Mathlib.Omega.{arith}
 use Rattle.cells.specs.Bytes.{pick, same}
 use Rattle.cells.proofs.Bools.{split}
+use Rattle.rules.specs.Values.{copies}
 use Rattle.record.specs.Layout.{kindOf}
 use Rattle.record.specs.declared.layout.Kind.{Kind}
 use Rattle.record.specs.declared.layout.Kind.the-variants.{Order, Goods, Closing, Report}
@@ -59,7 +60,7 @@ last-report (s ∷ ss) h m = go (h .0 .kind) (h .0 .known) (h .0 .something) (λ
 -- the line that an order begins, with the records after it
 abbrev begun : Key → List ℕ → List (List ℕ) → Line
 begun key s ss =
-    lineOf key (record { ordered = copiesOn s; arrived = total copiesOn (keep isDelivery ss); mark = lastMark Unmarked (keep isReport ss) })
+    lineOf key (record { ordered = copies (copiesOn s); arrived = copies (total copiesOn (keep isDelivery ss)); mark = lastMark Unmarked (keep isReport ss) })
 
 -- it is the line that the order begins on lists
 order-begins : (key : Key) (s : List ℕ) (ss : List (List ℕ)) → Each Bookable ss
@@ -78,7 +79,7 @@ own-line key (s ∷ ss) h = go (h .0 .kind) (h .0 .known) (h .0 .something) (own
     go : (k : Kind) → kindOf s ≡ Known k → nothingToBook k s ≡ false → saysOf (foremost (lineGiven key (map fitOf ss))) ≡ lineFrom ss
         → saysOf (foremost (lineGiven key (fitOf s ∷ map fitOf ss))) ≡ lineFrom (s ∷ ss)
     go Order e n rest =
-        let c : copiesOn s ≡ copiesIn Order s = unfold copiesOn in rw e refl in
+        let c : copiesOn s ≡ copiesIn Order s .0 = unfold copiesOn in rw e refl in
         rw (e, ← c) (ap (λ (l : Line). saysOf (some l)) (order-begins key s ss (h .1)) ∙ sym (done-told key _))
     go Goods e n rest = rw e rest
     go Closing e n rest = absurd (let z : _≡_ {A = ℕ} 0 1 = cc in omega arith)

@@ -10,6 +10,7 @@ use lib.ListN.{length}
 use borrow.Author.Tests.{ltb-true, ltb-false, leb-true, leb-false, lt-leb, le-leb, lt-ltb, le-ltb, eqb-true, eqb-false, eq-eqb, ne-eqb}
 use Rattle.cells.specs.Bytes.{pick, same}
 use Rattle.cells.proofs.Bools.{split}
+use Rattle.rules.specs.Values.{copies}
 use Rattle.record.specs.Layout.{kindOf}
 use Rattle.record.specs.Read.{judged}
 use Rattle.record.specs.declared.answer.Verdict.the-variants.{Fits as ReadFits}
@@ -72,25 +73,25 @@ module _ (b : Lent) (key : Key) where
       (split (leb (lineRoom b) (usedLines b)) (λ h. rw h refl) (λ h. rw h refl))
 
   -- a delivery whose slip key is booked
-  slip-number : (g : Arrival) (j : ℕ) → findSlip b (g .slip) ≡ At j → verdictNumber (slipJudged b key (g .copies) j) ≡ numberOf (judge (roomsOf b) (told b) (goods key g))
+  slip-number : (g : Arrival) (j : ℕ) → findSlip b (g .slip) ≡ At j → verdictNumber (slipJudged b key (copies (g .copies)) j) ≡ numberOf (judge (roomsOf b) (told b) (goods key g))
   unfolding slipJudged verdictNumber refusedNumber judge tests firstOf given found isSame slipTold keyIs numberOf
   slip-number g j e =
-      rw (slip-found b (g .slip) j e, same-turned key (keyAt (b .lines) (slipLineAt (b .slips) j)), equal-turned (g .copies) (slipCopiesAt (b .slips) j))
-      (split (same (keyAt (b .lines) (slipLineAt (b .slips) j)) key && eqb (slipCopiesAt (b .slips) j) (g .copies)) (λ h. rw h refl) (λ h. rw h refl))
+      rw (slip-found b (g .slip) j e, same-turned key (keyAt (b .lines) (slipLineAt (b .slips) j)), equal-turned (g .copies) (slipCopiesAt (b .slips) j .0))
+      (split (same (keyAt (b .lines) (slipLineAt (b .slips) j)) key && eqb (slipCopiesAt (b .slips) j .0) (g .copies)) (λ h. rw h refl) (λ h. rw h refl))
 
   -- a delivery whose slip key is new
   goods-number : (g : Arrival) (f : Found) → findSlip b (g .slip) ≡ Nothing → findLine b key ≡ f
-      → verdictNumber (goodsJudged b (g .copies) f) ≡ numberOf (judge (roomsOf b) (told b) (goods key g))
+      → verdictNumber (goodsJudged b (copies (g .copies)) f) ≡ numberOf (judge (roomsOf b) (told b) (goods key g))
   unfolding goodsJudged arrivalJudged verdictNumber refusedNumber judge tests firstOf given found roomsOf limit lineTold numberOf
   goods-number g Nothing e h = rw (no-slip b (g .slip) e, no-line b key h) refl
   goods-number g (At i) e h =
-      let n : ℕ = lineAt (b .lines) i .arrived + g .copies in
+      let n : ℕ = lineAt (b .lines) i .arrived .0 + g .copies in
       rw (no-slip b (g .slip) e, line-found b key i h, slips-told b, limit-turned n mostArrived, room-turned (usedSlips b) (slipRoom b))
       (split (ltb mostArrived n) (λ t. rw t refl)
       (λ t. rw t (split (leb (slipRoom b) (usedSlips b)) (λ u. rw u refl) (λ u. rw u refl))))
 
   delivery-number : (g : Arrival) (f : Found) → findSlip b (g .slip) ≡ f
-      → verdictNumber (deliveryJudged b key (g .copies) f) ≡ numberOf (judge (roomsOf b) (told b) (goods key g))
+      → verdictNumber (deliveryJudged b key (copies (g .copies)) f) ≡ numberOf (judge (roomsOf b) (told b) (goods key g))
   unfolding deliveryJudged
   delivery-number g (At j) e = slip-number g j e
   delivery-number g Nothing e = goods-number g (findLine b key) e refl
@@ -104,9 +105,9 @@ module _ (b : Lent) (key : Key) where
 -- a record of a kind with something to book
 kind-number : (s : List ℕ) (b : Lent) (k : Kind) → nothingToBook k s ≡ false → verdictNumber (bookJudged k s b) ≡ numberOf (judge (roomsOf b) (told b) (fitAs k s))
 unfolding bookJudged fitAs nothingToBook
-kind-number s b Order h = order-number b (lineKey Order s) (record { copies = copiesIn Order s }) (findLine b (lineKey Order s)) refl
+kind-number s b Order h = order-number b (lineKey Order s) (record { copies = copiesIn Order s .0 }) (findLine b (lineKey Order s)) refl
 kind-number s b Goods h =
-    delivery-number b (lineKey Goods s) (record { slip = slipKey s; copies = copiesIn Goods s }) (findSlip b (slipKey s)) refl
+    delivery-number b (lineKey Goods s) (record { slip = slipKey s; copies = copiesIn Goods s .0 }) (findSlip b (slipKey s)) refl
 kind-number s b Closing h = absurd (let z : _≡_ {A = ℕ} 0 1 = cc in omega arith)
 kind-number s b Report h = report-number b (lineKey Report s) (record { hold = holdOf (markIn s) }) (findLine b (lineKey Report s)) refl
 

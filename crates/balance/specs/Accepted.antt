@@ -5,12 +5,11 @@ use mathlib.Core.Bool.{true, false}
 use mathlib.Core.Logic.{_≢_}
 use mathlib.Core.List.{List}
 use Rattle.record.specs.Layout.{kindOf}
-use Rattle.record.specs.Read.{judged}
-use Rattle.record.specs.declared.answer.Verdict.the-variants.{Fits as ReadFits}
 use Rattle.record.specs.declared.layout.Kind.{Kind}
 use Rattle.record.specs.declared.layout.Kind.the-variants.{Order, Goods, Closing, Report}
 use Rattle.record.specs.declared.layout.Kinded.the-variants.{Known}
 use Rattle.entry.specs.Stored.{mostArrived, lineAt, keyAt, slipKeyAt}
+use Rattle.roundtrip.specs.Record.{IsRecord}
 use Rattle.book.specs.Lent.{Lent, usedLines, usedSlips, lineRoom, slipRoom, sound}
 use Rattle.book.specs.Booking.{lineKey, slipKey, copiesIn, nothingToBook, noCopies, noReference}
 use Rattle.balance.specs.Calls.{bookCall}
@@ -38,7 +37,7 @@ pub record DeliveryPasses (s : List ℕ) (b : Lent) : Type 0 where
   pub new : NoSlipWith b (slipKey s)
   pub line : ℕ
   pub there : LineWith b (lineKey Goods s) line
-  pub limit : lineAt (b .lines) line .arrived + copiesIn Goods s ≤ mostArrived
+  pub limit : lineAt (b .lines) line .arrived .0 + copiesIn Goods s .0 ≤ mostArrived
   pub room : usedSlips b < slipRoom b
 
 -- a report: not 16
@@ -58,7 +57,7 @@ pub record Acceptable (s : List ℕ) (b : Lent) : Type 0 where
   -- 20
   pub is-sound : sound b ≡ true
   -- 1 to 10
-  pub is-read : (n : ℕ) × (judged s ≡ ReadFits n)
+  pub is-record : IsRecord s
   pub kind : Kind
   pub named : kindOf s ≡ Known kind
   -- 13, 11, 12

@@ -6,6 +6,7 @@ use mathlib.Core.List.{List, [], _∷_, _++_, map}
 use lib.Dec.{eqb}
 use lib.ListN.{length, take}
 use Rattle.cells.specs.Bytes.{pick, same}
+use Rattle.rules.specs.Values.{copies}
 use Rattle.record.specs.Layout.{kindOf}
 use Rattle.record.specs.Values.{fieldBytes}
 use Rattle.record.specs.declared.layout.Kind.{Kind}
@@ -42,7 +43,7 @@ isReport s = byKind false false true false (kindOf s)
 
 -- the copies that an order or a delivery states
 unfoldable pub copiesOn : List ℕ → ℕ
-copiesOn s = byKind (copiesIn Order s) (copiesIn Goods s) 0 0 (kindOf s)
+copiesOn s = byKind (copiesIn Order s .0) (copiesIn Goods s .0) 0 0 (kindOf s)
 
 -- the fields of a record with these indexes, each by itself
 abbrev pub fieldsIn : Kind → List ℕ → List ℕ → List (List ℕ)
@@ -97,7 +98,7 @@ unfoldable pub lineFrom : List (List ℕ) → Booked
 lineFrom [] = refusedAs NoLine
 lineFrom (s ∷ ss) =
     pick (isOrder s)
-    (doneAs (record { ordered = copiesOn s; arrived = total copiesOn (keep isDelivery ss); mark = lastMark Unmarked (keep isReport ss) }))
+    (doneAs (record { ordered = copies (copiesOn s); arrived = copies (total copiesOn (keep isDelivery ss)); mark = lastMark Unmarked (keep isReport ss) }))
     (lineFrom ss)
 
 -- what the call by key answers for a record's own key
@@ -106,10 +107,10 @@ figuresFor b s = askCall (keyFieldsIn s) b .figures
 
 -- the copies of an order that are accounted for, and those that came for it
 abbrev pub accounted : Figures → ℕ
-accounted f = f .filled + f .«let_go» + f .«still_open»
+accounted f = f .filled .0 + f .«let_go» .0 + f .«still_open» .0
 
 abbrev pub came : Figures → ℕ
-came f = f .filled + f .extra
+came f = f .filled .0 + f .extra .0
 
 -- the lent book, and the records that answered 0, the earliest first
 pub record Given : Type 0 where

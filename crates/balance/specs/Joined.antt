@@ -6,6 +6,7 @@ use mathlib.Core.Option.{Option, none, some}
 use mathlib.Core.List.{List, map}
 use lib.ListN.{length}
 use Rattle.cells.specs.Bytes.{pick}
+use Rattle.rules.specs.Values.{copies}
 use Rattle.record.specs.Layout.{kindOf}
 use Rattle.record.specs.Read.{judged}
 use Rattle.record.specs.declared.answer.Verdict.the-variants.{Fits as ReadFits}
@@ -27,7 +28,8 @@ use Rattle.balance.specs.Demand3.{keyFieldsIn, Given, fresh, giveAll}
 
 -- the figures of a line of the told book, in the order in which the calls give them
 unfoldable pub figuresTold : Line → Figures
-figuresTold l = record { ordered = ordered l; filled = filled l; «still_open» = stillOpen l; «let_go» = letGo l; extra = extra l }
+figuresTold l =
+    record { ordered = copies (ordered l); filled = copies (filled l); «still_open» = copies (stillOpen l); «let_go» = copies (letGo l); extra = copies (extra l) }
 
 -- what a call says of the line that is found, or that there is none
 unfoldable pub saysOf : Option Line → Booked

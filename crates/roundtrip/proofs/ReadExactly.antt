@@ -28,7 +28,7 @@ use Rattle.record.specs.declared.layout.Kinded.the-variants.{Known}
 use Rattle.reader.proofs.Stages.{by-kind, kind-rest, judge-fits, small-table, check-fits}
 use Rattle.reader.proofs.Fitting.{Fitting, fitting, fits-known, fits-long, fits-count}
 use Rattle.writing.specs.Write.{entries, optionalOf, optionalText, recordText}
-use Rattle.roundtrip.specs.Record.{Parts, fixedPart, MakesRecord, IsRecord}
+use Rattle.roundtrip.specs.Record.{Parts, fixedPart, MakesRecord, textOf, IsRecord}
 use Rattle.roundtrip.specs.Demand2.{LargeTable, Tabled, ReadExactly, ReadsParts}
 use Rattle.roundtrip.proofs.Texts.{AllWritable, text-least, text-walked, text-fields}
 use Rattle.roundtrip.proofs.Fronts.{date-inside, kind-front, broken-front}
@@ -212,7 +212,7 @@ module _ (k : Kind) (s : List ℕ) (n : ℕ) (g : kindOf s ≡ Known k) (e : jud
   }
 
 -- what fits is a record
-fits-record : (s : List ℕ) (n : ℕ) → judged s ≡ Fits n → IsRecord s
+pub fits-record : (s : List ℕ) (n : ℕ) → judged s ≡ Fits n → IsRecord s
 fits-record s n e =
     let k = fits-known s n e in
     let m = whole-made _ _ (k .0) (fits-whole (k .0) s n (k .1) e) in
@@ -221,6 +221,12 @@ fits-record s n e =
       makes = m .makes;
       text = ap (λ (x : List ℕ). recordText x (m .parts .optional)) (m .same-fixed) ∙ ap (recordText _) (m .same-optional) ∙ fits-text (k .0) s n (k .1) e;
     }
+
+-- and a record fits
+pub record-fits : (s : List ℕ) → IsRecord s → (n : ℕ) × (judged s ≡ Fits n)
+record-fits s r =
+    let o : List Optional = r .parts .optional in
+    (length o, rw (← r .text) (tabled-fits (textOf (r .parts)) o (reads-parts (r .parts) (r .makes) .same-optional)))
 
 -- reading answers 0 for the texts of records, where the table is large, and for nothing else
 pub read-exactly : (s lent : List ℕ) → ReadExactly s lent
