@@ -3,10 +3,11 @@ use mathlib.Core.Path.{_≡_}
 use mathlib.Core.Bool.{true, false}
 use mathlib.Core.List.{List}
 use Prim.Native.Nat.{ℕ}
+use Rattle.cells.specs.Bytes.{joined}
 use Rattle.entry.specs.Stored.{lineAt}
 use Rattle.book.specs.Lent.{Lent, sound, findLine}
 use Rattle.book.specs.Booking.{refusedAs, doneAs}
-use Rattle.book.specs.Asked.{keyWidths, areWide, keyOf, figuresAt, figuresOfKey, lineAsked}
+use Rattle.book.specs.Asked.{keyWidths, areWide, figuresAt, figuresOfKey, lineAsked}
 use Rattle.book.specs.declared.seek.Found.the-variants.{At, Nothing}
 use Rattle.book.specs.declared.answer.Refused.the-variants.{Unsound, NoLine}
 
@@ -31,6 +32,6 @@ module _ (fields : List (List ℕ)) (b : Lent) where
     unfolding lineAsked figuresOfKey
     asked-none e = rw (h, e)
 
-    pub asked-found : areWide keyWidths fields ≡ true → lineAsked fields b ≡ figuresAt b (findLine b (keyOf fields))
+    pub asked-found : areWide keyWidths fields ≡ true → lineAsked fields b ≡ figuresAt b (findLine b (joined fields))
     unfolding lineAsked figuresOfKey
     asked-found e = rw (h, e)

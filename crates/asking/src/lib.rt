@@ -2,8 +2,9 @@
 ghost use mathlib.Core.Path.{_≡_};
 ghost use mathlib.Core.Bool.{true};
 ghost use mathlib.Core.List.{[], _∷_};
+ghost use Rattle.cells.specs.Bytes.{joined};
 ghost use Rattle.book.specs.Lent.{lent, sound, findLine};
-ghost use Rattle.book.specs.Asked.{keyWidths, areWide, keyOf, figuresAt, lineAsked};
+ghost use Rattle.book.specs.Asked.{keyWidths, areWide, figuresAt, lineAsked};
 use book::answer::Booked;
 use book::answer::Refused;
 use book::answer::done;
@@ -12,6 +13,12 @@ use book::seek::Found;
 use book::seek::find_line;
 use book::seek::is_sound;
 use cells::paste_at;
+use entry::key::ARTICLE_AT;
+use entry::key::ARTICLE_QUALIFIER_AT;
+use entry::key::FIRST_QUALIFIER_AT;
+use entry::key::REFERENCE_AT;
+use entry::key::SECOND_PARTY_AT;
+use entry::key::SECOND_QUALIFIER_AT;
 use entry::stored::read_line;
 
 // The lengths of the fields: an address, a reference, an article number, a qualifier.
@@ -22,19 +29,6 @@ const REFERENCE: usize = 10;
 const ARTICLE: usize = 13;
 
 const QUALIFIER: usize = 2;
-
-// Where the fields start in a line's key.
-const SCHOOL_QUALIFIER_AT: usize = 10;
-
-const SUPPLIER_AT: usize = 12;
-
-const SUPPLIER_QUALIFIER_AT: usize = 22;
-
-const REFERENCE_AT: usize = 24;
-
-const ARTICLE_AT: usize = 34;
-
-const ARTICLE_QUALIFIER_AT: usize = 47;
 
 // Whether each field has its length.
 fn are_wide(
@@ -67,13 +61,13 @@ fn line_key(
     article_qualifier: &[u8],
 ) -> [u8; 49]
     requires { ⌜ areWide keyWidths (now school ∷ now «school_qualifier» ∷ now supplier ∷ now «supplier_qualifier» ∷ now reference ∷ now article ∷ now «article_qualifier» ∷ []) ≡ true ⌝ }
-    ensures { λ r. ⌜ r ≡ keyOf (now (school .entry) ∷ now («school_qualifier» .entry) ∷ now (supplier .entry) ∷ now («supplier_qualifier» .entry) ∷ now (reference .entry) ∷ now (article .entry) ∷ now («article_qualifier» .entry) ∷ []) ⌝ }
+    ensures { λ r. ⌜ r ≡ joined (now (school .entry) ∷ now («school_qualifier» .entry) ∷ now (supplier .entry) ∷ now («supplier_qualifier» .entry) ∷ now (reference .entry) ∷ now (article .entry) ∷ now («article_qualifier» .entry) ∷ []) ⌝ }
 {
     let mut key = [0u8; 49];
     paste_at(&mut key, 0, school);
-    paste_at(&mut key, SCHOOL_QUALIFIER_AT, school_qualifier);
-    paste_at(&mut key, SUPPLIER_AT, supplier);
-    paste_at(&mut key, SUPPLIER_QUALIFIER_AT, supplier_qualifier);
+    paste_at(&mut key, FIRST_QUALIFIER_AT, school_qualifier);
+    paste_at(&mut key, SECOND_PARTY_AT, supplier);
+    paste_at(&mut key, SECOND_QUALIFIER_AT, supplier_qualifier);
     paste_at(&mut key, REFERENCE_AT, reference);
     paste_at(&mut key, ARTICLE_AT, article);
     paste_at(&mut key, ARTICLE_QUALIFIER_AT, article_qualifier);

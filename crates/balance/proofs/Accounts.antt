@@ -8,7 +8,7 @@ use Prim.Native.Nat.{ℕ, _+_, _≤_}
 use native.Mathlib.Omega.{arith}
 use lib.ListN.{length, length-map, take}
 use borrow.Author.Tests.{eqb-true}
-use Rattle.cells.specs.Bytes.{pick, same}
+use Rattle.cells.specs.Bytes.{pick, same, joined}
 use Rattle.cells.proofs.Bools.{split, and-left, and-right}
 use Rattle.cells.proofs.Lists.{same-true}
 use Rattle.entry.specs.declared.line.Figures.{Figures}
@@ -23,9 +23,9 @@ use Rattle.ledger.proofs.Gives.{Gives, first-accepted}
 use Rattle.ledger.proofs.Sums.{order-sum, slip-sum}
 use Rattle.ledger.proofs.Slips.{slip-once}
 use Rattle.ledger.proofs.Orders.{figureAt, ordersIn, lines-by-orders}
-use Rattle.book.specs.Lent.{Lent, usedLines, usedSlips, lineRoom, slipRoom, allFrom, sound}
+use Rattle.book.specs.Lent.{Lent, usedLines, usedSlips, lineRoom, slipRoom, allFrom, sound, roomsSound}
 use Rattle.book.specs.Booking.{noFigures, refusedAs, book}
-use Rattle.book.specs.Asked.{areWide, keyOf, lineAsked}
+use Rattle.book.specs.Asked.{areWide, lineAsked}
 use Rattle.book.specs.declared.answer.Refused.the-variants.{Unsound, NoLine}
 use Rattle.book.specs.declared.answer.Booked.{Booked as Said}
 use Rattle.balance.specs.Told.{told, roomsOf, fitOf}
@@ -142,8 +142,8 @@ module _ (rooms : Rooms) (g : Given) (kept : Kept (g .book)) (gives : Gives room
       let with : List ℕ → Bool = λ s. isDelivery s && sameFields slip (slipFieldsIn s) in
       split (areWide slipWidths slip)
       (λ w.
-      let mine = keep-mapped Bookable fitOf (hasSlip (keyOf slip)) with (λ s b. sym (rw w at (booked-as s b .slip-in slip))) (g .accepted) all in
-      let one : length (keep (hasSlip (keyOf slip)) fits) ≤ 1 = rw gives at (slip-once rooms fits (keyOf slip)) in
+      let mine = keep-mapped Bookable fitOf (hasSlip (joined slip)) with (λ s b. sym (rw w at (booked-as s b .slip-in slip))) (g .accepted) all in
+      let one : length (keep (hasSlip (joined slip)) fits) ≤ 1 = rw gives at (slip-once rooms fits (joined slip)) in
       let count : length (map fitOf (keep with (g .accepted))) ≡ length (keep with (g .accepted)) = length-map (keep with (g .accepted)) fitOf in
       rw (← count) (rw mine at one))
       (λ w.
@@ -204,7 +204,7 @@ all-answered rooms (s ∷ ss) g kept lent h e = go (refused-or-accepted s (g .bo
 -- rooms of the same sizes with nothing used are as sound, and have as much room
 fresh-sound : (lines slips lines′ slips′ : List ℕ) → length lines′ ≡ length lines → length slips′ ≡ length slips
     → sound (fresh lines′ slips′ .book) ≡ sound (fresh lines slips .book)
-unfolding sound usedLines usedSlips lineRoom slipRoom allFrom
+unfolding sound roomsSound usedLines usedSlips lineRoom slipRoom allFrom
 fresh-sound lines slips lines′ slips′ l s = rw (l, s) refl
 
 fresh-rooms : (lines slips lines′ slips′ : List ℕ) → length lines′ ≡ length lines → length slips′ ≡ length slips

@@ -5,7 +5,7 @@ use mathlib.Core.List.{List, [], _∷_}
 use Prim.Native.Nat.{ℕ, _≤_}
 use native.Mathlib.Omega.{arith}
 use lib.ListN.{length, take}
-use Rattle.cells.specs.Bytes.{pick, same, all}
+use Rattle.cells.specs.Bytes.{pick, same, all, joined}
 use Rattle.cells.proofs.Bools.{and-false}
 use Rattle.record.specs.Layout.{layout, fixedWidth, kindOf}
 use Rattle.record.specs.Read.{judged}
@@ -17,13 +17,13 @@ use Rattle.reader.proofs.Fitting.{Fitting, fitting}
 use Rattle.ledger.specs.Book.{schoolOf, ofSchool as schoolIs}
 use Rattle.ledger.specs.History.{keyOf as keyIn, isOrder as isOrdering, onOrder, onSlip, hasSlip}
 use Rattle.book.specs.Lent.{Lent}
-use Rattle.book.specs.Booking.{keyFields, slipFields, lineKey, slipKey, copiesIn, nothingToBook, noCopies, noReference, fitJudged}
-use Rattle.book.specs.Asked.{keyWidths, areWide, keyOf}
+use Rattle.book.specs.Booking.{keyFields, slipFields, lineKey, slipKey, copiesIn, nothingToBook, noCopies, noReference, fitJudged, fieldsIn}
+use Rattle.book.specs.Asked.{keyWidths, areWide}
 use Rattle.balance.specs.Told.{fitAs, fitKind, fitOf}
-use Rattle.balance.specs.Demand3.{isOrder, isDelivery, isReport, copiesOn, fieldsIn, keyFieldsIn, slipFieldsIn, sameFields, ofSchool}
+use Rattle.balance.specs.Demand3.{isOrder, isDelivery, isReport, copiesOn, keyFieldsIn, slipFieldsIn, sameFields, ofSchool}
 use Rattle.balance.proofs.Accepted.{Accepts}
 use Rattle.balance.proofs.Followed.{passed}
-use Rattle.balance.proofs.Keys.{same-fields, front-two, fields-wide, fields-joined}
+use Rattle.balance.proofs.Keys.{same-fields, front-two, fields-wide}
 
 pub record Bookable (s : List ℕ) : Type 0 where
   pub fields : ℕ
@@ -47,18 +47,18 @@ bookable s b a =
 -- the seven fields of a record's key have their lengths, and make the key of its line
 pub record Keyed (s : List ℕ) : Type 0 where
   pub wide : areWide keyWidths (keyFieldsIn s) ≡ true
-  pub key-is : keyOf (keyFieldsIn s) ≡ keyIn (fitOf s)
+  pub key-is : joined (keyFieldsIn s) ≡ keyIn (fitOf s)
 
 -- of a record of a kind that is long enough
 kind-keyed : (s : List ℕ) (k : Kind) → fixedWidth k ≤ length s → nothingToBook k s ≡ false → kindOf s ≡ Known k → Keyed s
 unfolding keyFieldsIn keyFields fitOf fitKind fitAs keyIn lineKey layout all nothingToBook
 kind-keyed s Order h n e =
-    record { wide = rw e (fields-wide Order s h (keyFields Order) refl); key-is = rw e (fields-joined Order s (keyFields Order)) }
+    record { wide = rw e (fields-wide Order s h (keyFields Order) refl); key-is = rw e refl }
 kind-keyed s Goods h n e =
-    record { wide = rw e (fields-wide Goods s h (keyFields Goods) refl); key-is = rw e (fields-joined Goods s (keyFields Goods)) }
+    record { wide = rw e (fields-wide Goods s h (keyFields Goods) refl); key-is = rw e refl }
 kind-keyed s Closing h n e = absurd (let z : _≡_ {A = ℕ} 0 1 = cc in omega arith)
 kind-keyed s Report h n e =
-    record { wide = rw e (fields-wide Report s h (keyFields Report) refl); key-is = rw e (fields-joined Report s (keyFields Report)) }
+    record { wide = rw e (fields-wide Report s h (keyFields Report) refl); key-is = rw e refl }
 
 pub keyed : (s : List ℕ) → Bookable s → Keyed s
 keyed s b =
@@ -74,7 +74,7 @@ slipWidths = 10 ∷ 2 ∷ 10 ∷ 2 ∷ 8 ∷ 10 ∷ 4 ∷ []
 
 -- the test for a school's fields, on the key of a line
 abbrev pub schoolTest : List (List ℕ) → List ℕ → Bool
-schoolTest school k = areWide schoolWidths school && schoolIs (keyOf school) k
+schoolTest school k = areWide schoolWidths school && schoolIs (joined school) k
 
 -- a record has a school's fields, or a key's, exactly where it is booked with them
 module _ (s : List ℕ) (b : Bookable s) where
@@ -85,7 +85,7 @@ module _ (s : List ℕ) (b : Bookable s) where
       let two = front-two 10 2 (10 ∷ 2 ∷ 10 ∷ 13 ∷ 2 ∷ []) (keyFieldsIn s) (t .wide) in
       rw (same-fields schoolWidths school (take 2 (keyFieldsIn s)) (two .0), two .1, t .key-is) refl
 
-  pub key-in : (fields : List (List ℕ)) → sameFields fields (keyFieldsIn s) ≡ areWide keyWidths fields && same (keyOf fields) (keyIn (fitOf s))
+  pub key-in : (fields : List (List ℕ)) → sameFields fields (keyFieldsIn s) ≡ areWide keyWidths fields && same (joined fields) (keyIn (fitOf s))
   key-in fields =
       let t = keyed s b in
       rw (same-fields keyWidths fields (keyFieldsIn s) (t .wide), t .key-is) refl
@@ -95,13 +95,13 @@ pub record BookedAs (s : List ℕ) : Type 0 where
   pub ordering : isOrdering (fitOf s) ≡ isOrder s
   pub on-order : onOrder (fitOf s) ≡ pick (isOrder s) (copiesOn s) 0
   pub on-slip : onSlip (fitOf s) ≡ pick (isDelivery s) (copiesOn s) 0
-  pub slip-in : (slip : List (List ℕ)) → isDelivery s && sameFields slip (slipFieldsIn s) ≡ areWide slipWidths slip && hasSlip (keyOf slip) (fitOf s)
+  pub slip-in : (slip : List (List ℕ)) → isDelivery s && sameFields slip (slipFieldsIn s) ≡ areWide slipWidths slip && hasSlip (joined slip) (fitOf s)
 
 -- a delivery has a slip key's fields exactly where it is booked with that key
 goods-slip : (s : List ℕ) → fixedWidth Goods ≤ length s → (slip : List (List ℕ))
-    → sameFields slip (slipFieldsIn s) ≡ areWide slipWidths slip && same (keyOf slip) (slipKey s)
+    → sameFields slip (slipFieldsIn s) ≡ areWide slipWidths slip && same (joined slip) (slipKey s)
 unfolding slipFieldsIn slipKey layout all
-goods-slip s h slip = rw (same-fields slipWidths slip (fieldsIn Goods slipFields s) (fields-wide Goods s h slipFields refl), fields-joined Goods s slipFields) refl
+goods-slip s h slip = rw (same-fields slipWidths slip (fieldsIn Goods slipFields s) (fields-wide Goods s h slipFields refl)) refl
 
 kind-booked : (s : List ℕ) (k : Kind) → fixedWidth k ≤ length s → nothingToBook k s ≡ false → kindOf s ≡ Known k → BookedAs s
 unfolding fitOf fitKind fitAs isOrdering onOrder onSlip hasSlip isOrder isDelivery copiesOn nothingToBook

@@ -7,7 +7,7 @@ use mathlib.Core.List.{List, [], _∷_, _++_}
 use Prim.Native.Nat.{ℕ, _+_, _≤_}
 use native.Mathlib.Omega.{arith}
 use lib.ListN.{length}
-use Rattle.cells.specs.Bytes.{same, all}
+use Rattle.cells.specs.Bytes.{same, all, joined}
 use Rattle.cells.proofs.Bools.{split}
 use Rattle.cells.proofs.Lists.{same-refl}
 use Rattle.record.specs.Layout.{layout, fixedWidth, kindOf}
@@ -26,13 +26,13 @@ use Rattle.ledger.specs.Booking.{Fit, order as ordering, goods as arriving, rep
 use Rattle.ledger.specs.History.{keyOf as keyIn}
 use Rattle.ledger.proofs.Parts.{arrive-key, tell-key}
 use Rattle.book.specs.Lent.{Lent, sound, findLine, findSlip}
-use Rattle.book.specs.Booking.{keyFields, lineKey, slipKey, copiesIn, markIn, bookJudged, newLine, lineAfter, refusedAs, doneAs, book}
-use Rattle.book.specs.Asked.{keyWidths, areWide, keyOf, figuresAt, figuresOfKey, lineAsked}
+use Rattle.book.specs.Booking.{keyFields, lineKey, slipKey, copiesIn, markIn, bookJudged, newLine, lineAfter, refusedAs, doneAs, book, fieldsIn}
+use Rattle.book.specs.Asked.{keyWidths, areWide, figuresAt, figuresOfKey, lineAsked}
 use Rattle.book.specs.declared.answer.Verdict.the-variants.{Fits}
 use Rattle.book.specs.declared.seek.Found.{Found}
 use Rattle.book.specs.declared.seek.Found.the-variants.{At, Nothing}
 use Rattle.balance.specs.Told.{reportOf, lineTold, told, holdOf, fitAs, fitKind, fitOf}
-use Rattle.balance.specs.Demand3.{fieldsIn, keyFieldsIn}
+use Rattle.balance.specs.Demand3.{keyFieldsIn}
 use Rattle.balance.specs.Joined.{figuresTold, saysOf, AskedTells, BookedTells}
 use Rattle.balance.proofs.Soundness.{Kept}
 use Rattle.balance.proofs.Accepted.{Refuses, Accepts, refused-or-accepted}
@@ -70,7 +70,7 @@ found-told b key (At i) e = done-told (keyAt (b .lines) i) (lineAt (b .lines) i)
 -- the call by key
 pub asked-tells : AskedTells
 unfolding lineAsked figuresOfKey
-asked-tells fields b = rw (found-told b (keyOf fields) (findLine b (keyOf fields)) refl) refl
+asked-tells fields b = rw (found-told b (joined fields) (findLine b (joined fields)) refl) refl
 
 -- the first match among more entries, and after a change
 module _ {A : Type 0} (q : A → Bool) where

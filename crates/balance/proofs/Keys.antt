@@ -8,16 +8,16 @@ use lib.Dec.{eqb, ltb}
 use lib.ListN.{length, getD, take, length-append}
 use lib.Seq.{take-at}
 use borrow.Author.Tests.{eqb-true, eqb-false, eq-eqb, ltb-true}
-use Rattle.cells.specs.Bytes.{same, all}
+use Rattle.book.specs.Booking.{fieldsIn}
+use Rattle.cells.specs.Bytes.{same, all, joined}
 use Rattle.cells.proofs.Bools.{split, and-left, and-right}
 use Rattle.cells.proofs.Lists.{same-lengths}
 use Rattle.record.specs.Layout.{noField, layout, fixedWidth}
 use Rattle.record.specs.Values.{fieldBytes}
 use Rattle.record.specs.declared.layout.Kind.{Kind}
 use Rattle.record.proofs.Kept.{field-length}
-use Rattle.book.specs.Booking.{fieldsAt}
-use Rattle.book.specs.Asked.{areWide, keyOf}
-use Rattle.balance.specs.Demand3.{fieldsIn, sameFields}
+use Rattle.book.specs.Asked.{areWide}
+use Rattle.balance.specs.Demand3.{sameFields}
 
 -- parts of one length are the same where each is
 same-append : (a b x y : List ℕ) → length a ≡ length b → same (a ++ x) (b ++ y) ≡ same a b && same x y
@@ -30,8 +30,8 @@ same-append (c ∷ a) (d ∷ b) x y e =
     split (eqb c d) (λ t. rw t ih) (λ t. rw t refl)
 
 -- fields that are the same as fields of these lengths have these lengths, and make the same key
-pub same-fields : (ws : List ℕ) (fs gs : List (List ℕ)) → areWide ws gs ≡ true → sameFields fs gs ≡ areWide ws fs && same (keyOf fs) (keyOf gs)
-unfolding areWide sameFields keyOf
+pub same-fields : (ws : List ℕ) (fs gs : List (List ℕ)) → areWide ws gs ≡ true → sameFields fs gs ≡ areWide ws fs && same (joined fs) (joined gs)
+unfolding areWide sameFields joined
 same-fields [] [] [] h = unfold same in refl
 same-fields [] (f ∷ fs) [] h = refl
 same-fields [] fs (g ∷ gs) h = absurd (let z : _≡_ {A = ℕ} 0 1 = cc in omega arith)
@@ -43,14 +43,14 @@ same-fields (w ∷ ws) (f ∷ fs) (g ∷ gs) h =
     split (eqb (length f) w)
     (λ t.
     let e = eqb-true (length f) w t in
-    rw (t, same-append f g (keyOf fs) (keyOf gs) (e ∙ sym long), ih)
+    rw (t, same-append f g (joined fs) (joined gs) (e ∙ sym long), ih)
     (split (same f g) (λ u. rw u refl) (λ u. rw u (split (areWide ws fs) (λ v. rw v refl) (λ v. rw v refl)))))
     (λ t. rw (t, same-lengths f g (λ e. eqb-false (length f) w t (e ∙ long))) refl)
 
 -- the first two of some fields make the front of their key
 pub front-two : (v w : ℕ) (ws : List ℕ) (fs : List (List ℕ)) → areWide (v ∷ w ∷ ws) fs ≡ true
-    → (areWide (v ∷ w ∷ []) (take 2 fs) ≡ true) × (keyOf (take 2 fs) ≡ take (v + w) (keyOf fs))
-unfolding areWide keyOf
+    → (areWide (v ∷ w ∷ []) (take 2 fs) ≡ true) × (joined (take 2 fs) ≡ take (v + w) (joined fs))
+unfolding areWide joined
 front-two v w ws [] h = absurd (let z : _≡_ {A = ℕ} 0 1 = cc in omega arith)
 front-two v w ws (f ∷ []) h = absurd (let z : _≡_ {A = ℕ} 0 1 = cc (and-right (eqb (length f) v) false h) in omega arith)
 front-two v w ws (f ∷ g ∷ fs) h =
@@ -60,7 +60,7 @@ front-two v w ws (f ∷ g ∷ fs) h =
     let p = eqb-true (length f) v one in
     let q = eqb-true (length g) w two in
     let l : length (f ++ g) ≡ v + w = length-append f g ∙ omega arith in
-    (rw (one, two) refl, rw (append-nil g, ← append-assoc f g (keyOf fs)) (sym (take-at (f ++ g) (keyOf fs) (v + w) l)))
+    (rw (one, two) refl, rw (append-nil g, ← append-assoc f g (joined fs)) (sym (take-at (f ++ g) (joined fs) (v + w) l)))
 
 -- the lengths of the fields with some indexes
 abbrev pub widthsOf : Kind → List ℕ → List ℕ
@@ -76,9 +76,3 @@ module _ (k : Kind) (s : List ℕ) where
       let r : Bool = all (λ i. ltb i (length (layout k))) is in
       let l = field-length k s h i (ltb-true i (length (layout k)) (and-left q r e)) in
       rw (eq-eqb (length (fieldBytes k i s)) (getD (layout k) i noField .size) l) (fields-wide h is (and-right q r e))
-
-  -- one after the other they are the key that booking makes
-  pub fields-joined : (is : List ℕ) → keyOf (fieldsIn k is s) ≡ fieldsAt k is s
-  unfolding keyOf fieldsAt
-  fields-joined [] = refl
-  fields-joined (i ∷ is) = ap (λ (t : List ℕ). fieldBytes k i s ++ t) (fields-joined is)

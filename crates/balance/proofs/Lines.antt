@@ -5,7 +5,7 @@ use mathlib.Core.Option.{Option, none, some}
 use mathlib.Core.List.{List, [], _∷_, _++_, map}
 use Prim.Native.Nat.{ℕ}
 use native.Mathlib.Omega.{arith}
-use Rattle.cells.specs.Bytes.{pick, same}
+use Rattle.cells.specs.Bytes.{pick, same, joined}
 use Rattle.cells.proofs.Bools.{split}
 use Rattle.rules.specs.Values.{copies}
 use Rattle.record.specs.Layout.{kindOf}
@@ -25,7 +25,7 @@ use Rattle.ledger.proofs.Gives.{Gives}
 use Rattle.ledger.proofs.Lines.{every-line}
 use Rattle.book.specs.Lent.{Lent}
 use Rattle.book.specs.Booking.{copiesIn, markIn, nothingToBook, refusedAs, doneAs}
-use Rattle.book.specs.Asked.{keyWidths, areWide, keyOf, lineAsked}
+use Rattle.book.specs.Asked.{keyWidths, areWide, lineAsked}
 use Rattle.book.specs.declared.answer.Refused.the-variants.{NoLine}
 use Rattle.balance.specs.Told.{reportOf, told, holdOf, fitAs, fitKind, fitOf}
 use Rattle.balance.specs.Demand3.{isOrder, isDelivery, isReport, copiesOn, keyFieldsIn, sameFields, recordsWith, lastMark, lineFrom, Given}
@@ -106,9 +106,9 @@ module _ (rooms : Rooms) (g : Given) (kept : Kept (g .book)) (gives : Gives room
       ∙ rw (kept .is-sound)
       (split (areWide keyWidths fields)
       (λ w.
-      let mine = keep-mapped Bookable fitOf (λ (r : Fit). same (keyOf fields) (keyIn r)) with (λ s b. sym (rw w at (key-in s b fields))) (g .accepted) all in
-      rw w (ap saysOf (line-given (keyOf fields) ∙ ap (λ (rs : List Fit). foremost (lineGiven (keyOf fields) rs)) mine)
-      ∙ own-line (keyOf fields) (keep with (g .accepted)) (each-kept Bookable with (g .accepted) all)))
+      let mine = keep-mapped Bookable fitOf (λ (r : Fit). same (joined fields) (keyIn r)) with (λ s b. sym (rw w at (key-in s b fields))) (g .accepted) all in
+      rw w (ap saysOf (line-given (joined fields) ∙ ap (λ (rs : List Fit). foremost (lineGiven (joined fields) rs)) mine)
+      ∙ own-line (joined fields) (keep with (g .accepted)) (each-kept Bookable with (g .accepted) all)))
       (λ w.
       let none-mine = keep-each Bookable with (λ s. false) (λ s b. rw w at (key-in s b fields)) (g .accepted) all ∙ keep-nothing (g .accepted) in
       rw (w, none-mine) (unfold lineFrom in refl)))

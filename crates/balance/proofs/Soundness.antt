@@ -8,7 +8,7 @@ use lib.ListN.{length}
 use borrow.Author.Tests.{le-leb, lt-ltb}
 use Rattle.cells.proofs.Bools.{and-left, and-right}
 use Rattle.entry.specs.Stored.{lineWidth, slipWidth, lineSound, slipLineAt, slipSound}
-use Rattle.book.specs.Lent.{Lent, usedLines, usedSlips, mostLines, mostSlips, lineRoom, slipRoom, roomSound, allFrom, sound}
+use Rattle.book.specs.Lent.{Lent, usedLines, usedSlips, mostLines, mostSlips, lineRoom, slipRoom, roomSound, allFrom, sound, roomsSound}
 use Rattle.book.proofs.Sounds.{Sound}
 use Rattle.balance.proofs.Listings.{each-place}
 
@@ -18,7 +18,7 @@ pub still-sound : (b c : Lent) → sound b ≡ true → length (c .lines) ≡ le
     → ((i : ℕ) → i < usedLines c → lineSound (c .lines) i ≡ true)
     → ((j : ℕ) → j < usedSlips c → slipLineAt (c .slips) j < usedLines c)
     → sound c ≡ true
-unfolding sound slipSound
+unfolding sound roomsSound slipSound
 still-sound b c e l s u v lines slips =
     let x : Bool = roomSound lineWidth mostLines (length (b .lines)) in
     let y : Bool = roomSound slipWidth mostSlips (length (b .slips)) in

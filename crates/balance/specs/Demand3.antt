@@ -2,14 +2,12 @@
 use Prim.Native.Nat.{ℕ, _+_, _≤_}
 use mathlib.Core.Path.{_≡_}
 use mathlib.Core.Bool.{Bool, true, false, _&&_}
-use mathlib.Core.List.{List, [], _∷_, _++_, map}
+use mathlib.Core.List.{List, [], _∷_, _++_}
 use lib.Dec.{eqb}
 use lib.ListN.{length, take}
 use Rattle.cells.specs.Bytes.{pick, same}
 use Rattle.rules.specs.Values.{copies}
 use Rattle.record.specs.Layout.{kindOf}
-use Rattle.record.specs.Values.{fieldBytes}
-use Rattle.record.specs.declared.layout.Kind.{Kind}
 use Rattle.record.specs.declared.layout.Kind.the-variants.{Order, Goods, Closing, Report}
 use Rattle.record.specs.declared.layout.Kinded.{Kinded}
 use Rattle.record.specs.declared.layout.Kinded.the-variants.{Known, Unknown}
@@ -18,7 +16,7 @@ use Rattle.entry.specs.declared.line.Mark.the-variants.{Unmarked}
 use Rattle.entry.specs.declared.line.Figures.{Figures}
 use Rattle.ledger.specs.Lists.{keep, total}
 use Rattle.book.specs.Lent.{Lent, lent, sound}
-use Rattle.book.specs.Booking.{keyFields, slipFields, copiesIn, markIn, refusedAs, doneAs}
+use Rattle.book.specs.Booking.{keyFields, slipFields, copiesIn, markIn, refusedAs, doneAs, fieldsIn}
 use Rattle.book.specs.declared.answer.Refused.the-variants.{Unsound, NoLine}
 use Rattle.book.specs.declared.answer.Booked.{Booked}
 use Rattle.balance.specs.Calls.{bookCall, askCall}
@@ -44,10 +42,6 @@ isReport s = byKind false false true false (kindOf s)
 -- the copies that an order or a delivery states
 unfoldable pub copiesOn : List ℕ → ℕ
 copiesOn s = byKind (copiesIn Order s .0) (copiesIn Goods s .0) 0 0 (kindOf s)
-
--- the fields of a record with these indexes, each by itself
-abbrev pub fieldsIn : Kind → List ℕ → List ℕ → List (List ℕ)
-fieldsIn k is s = map (λ (i : ℕ). fieldBytes k i s) is
 
 -- the seven fields of its line's key: school address and qualifier, supplier address and qualifier, reference, article and qualifier
 unfoldable pub keyFieldsIn : List ℕ → List (List ℕ)

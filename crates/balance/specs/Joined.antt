@@ -5,7 +5,7 @@ use mathlib.Core.Bool.{true, false}
 use mathlib.Core.Option.{Option, none, some}
 use mathlib.Core.List.{List, map}
 use lib.ListN.{length}
-use Rattle.cells.specs.Bytes.{pick}
+use Rattle.cells.specs.Bytes.{pick, joined}
 use Rattle.rules.specs.Values.{copies}
 use Rattle.record.specs.Layout.{kindOf}
 use Rattle.record.specs.Read.{judged}
@@ -19,7 +19,7 @@ use Rattle.ledger.specs.History.{State}
 use Rattle.ledger.specs.Demand3.{Promise3}
 use Rattle.book.specs.Lent.{Lent, sound}
 use Rattle.book.specs.Booking.{nothingToBook, noCopies, noReference, refusedAs}
-use Rattle.book.specs.Asked.{keyWidths, areWide, keyOf}
+use Rattle.book.specs.Asked.{keyWidths, areWide}
 use Rattle.book.specs.declared.answer.Refused.the-variants.{Unsound, NoLine}
 use Rattle.book.specs.declared.answer.Booked.{Booked}
 use Rattle.balance.specs.Told.{told, roomsOf, fitOf}
@@ -40,7 +40,7 @@ saysOf (some l) = record { answer = 0; place = 0; figures = figuresTold l }
 abbrev pub AskedTells : Type 0
 AskedTells = (fields : List (List ℕ)) (b : Lent)
     → askCall fields b
-    ≡ pick (sound b) (pick (areWide keyWidths fields) (saysOf (lineAt (keyOf fields) (told b .lines))) (refusedAs NoLine)) (refusedAs Unsound)
+    ≡ pick (sound b) (pick (areWide keyWidths fields) (saysOf (lineAt (joined fields) (told b .lines))) (refusedAs NoLine)) (refusedAs Unsound)
 
 -- where booking answers 0, the call by key with the record's own key says the same of the book afterwards; the used counts are two numbers, as their type has it
 abbrev pub BookedTells : Type 0

@@ -8,7 +8,7 @@ use native.Mathlib.Omega.{arith}
 use borrow.Author.Tests.{ltb-true}
 use lib.Dec.{ltb, lit<}
 use lib.ListN.{length, getD, length-append}
-use Rattle.cells.specs.Bytes.{all, within}
+use Rattle.cells.specs.Bytes.{all, within, joined}
 use Rattle.cells.proofs.Bools.{and-left, and-right}
 use Rattle.rules.specs.Class.{belongs, allOf, ofClass}
 use Rattle.rules.specs.Number.{number}
@@ -23,7 +23,7 @@ use Rattle.record.specs.declared.layout.Kind.the-variants.{Order, Goods}
 use Rattle.record.proofs.Kept.{each-kept, field-length}
 use Rattle.reader.proofs.Fitting.{Fitting}
 use Rattle.entry.specs.Stored.{keyWidth, slipKeyWidth, mostCopies}
-use Rattle.book.specs.Booking.{fieldsAt, keyFields, lineKey, slipKey, copiesIn}
+use Rattle.book.specs.Booking.{keyFields, lineKey, slipKey, copiesIn, fieldsIn}
 
 -- the lengths of the fields with some indexes, added up
 abbrev pub widths : Kind → List ℕ → ℕ
@@ -32,13 +32,13 @@ widths k (i ∷ is) = getD (layout k) i noField .size + widths k is
 
 -- fields one after the other are as long as all of them
 pub fields-length : (k : Kind) (s : List ℕ) → fixedWidth k ≤ length s → (is : List ℕ) → all (λ i. ltb i (length (layout k))) is ≡ true
-    → length (fieldsAt k is s) ≡ widths k is
-unfolding fieldsAt all
+    → length (joined (fieldsIn k is s)) ≡ widths k is
+unfolding joined all
 fields-length k s h [] w = refl
 fields-length k s h (i ∷ is) w =
     let q : Bool = ltb i (length (layout k)) in
     let r : Bool = all (λ i. ltb i (length (layout k))) is in
-    rw (length-append (fieldBytes k i s) (fieldsAt k is s), field-length k s h i (ltb-true i (length (layout k)) (and-left q r w)), fields-length k s h is (and-right q r w))
+    rw (length-append (fieldBytes k i s) (joined (fieldsIn k is s)), field-length k s h i (ltb-true i (length (layout k)) (and-left q r w)), fields-length k s h is (and-right q r w))
 
 -- at most four digits spell at most 9,999
 pub digits-most : (xs : List ℕ) → ofClass Digit 4 4 xs ≡ true → number xs ≤ mostCopies

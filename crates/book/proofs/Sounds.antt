@@ -9,7 +9,7 @@ use lib.ListN.{length}
 use Rattle.cells.specs.Bytes.{within}
 use Rattle.cells.proofs.Bools.{and-left, and-right}
 use Rattle.entry.specs.Stored.{lineWidth, slipWidth, lineSound, slipSound, slipLineAt}
-use Rattle.book.specs.Lent.{Lent, usedLines, usedSlips, mostLines, mostSlips, lineRoom, slipRoom, roomSound, allFrom, sound}
+use Rattle.book.specs.Lent.{Lent, usedLines, usedSlips, mostLines, mostSlips, lineRoom, slipRoom, roomSound, allFrom, sound, roomsSound}
 use Rattle.book.proofs.Searches.{all-at}
 
 -- the used counts are within the rooms, the rooms within their limits, each used line is sound and each used slip names a used line
@@ -33,7 +33,7 @@ room-most width most n h =
 
 -- a book that passes the test is sound
 pub sound-so : (b : Lent) → sound b ≡ true → Sound b
-unfolding sound lineRoom slipRoom slipSound
+unfolding sound roomsSound lineRoom slipRoom slipSound
 sound-so b h =
     let sizes : Bool = roomSound lineWidth mostLines (length (b .lines)) && roomSound slipWidth mostSlips (length (b .slips)) in
     let counts : Bool = leb (usedLines b) (lineRoom b) && leb (usedSlips b) (slipRoom b) in

@@ -1,10 +1,10 @@
 -- Document 01: a call by key gives a line's figures, or 20, then 16; a key field of wrong length matches no line.
 use Prim.Native.Nat.{ℕ}
 use mathlib.Core.Bool.{Bool, true, false, _&&_}
-use mathlib.Core.List.{List, [], _∷_, _++_}
+use mathlib.Core.List.{List, [], _∷_}
 use lib.Dec.{eqb}
 use lib.ListN.{length}
-use Rattle.cells.specs.Bytes.{pick}
+use Rattle.cells.specs.Bytes.{pick, joined}
 use Rattle.entry.specs.Stored.{lineAt}
 use Rattle.book.specs.Lent.{Lent, sound, findLine}
 use Rattle.book.specs.Booking.{refusedAs, doneAs}
@@ -24,18 +24,13 @@ areWide [] (f ∷ fs) = false
 areWide (w ∷ ws) [] = false
 areWide (w ∷ ws) (f ∷ fs) = eqb (length f) w && areWide ws fs
 
--- the fields, one after the other
-unfoldable pub keyOf : List (List ℕ) → List ℕ
-keyOf [] = []
-keyOf (f ∷ fs) = f ++ keyOf fs
-
 unfoldable pub figuresAt : Lent → Found → Booked
 figuresAt b Nothing = refusedAs NoLine
 figuresAt b (At i) = doneAs (lineAt (b .lines) i)
 
 -- what is asked of a sound book; the key's fields are not judged by the field rules
 unfoldable pub figuresOfKey : List (List ℕ) → Lent → Booked
-figuresOfKey fields b = pick (areWide keyWidths fields) (figuresAt b (findLine b (keyOf fields))) (refusedAs NoLine)
+figuresOfKey fields b = pick (areWide keyWidths fields) (figuresAt b (findLine b (joined fields))) (refusedAs NoLine)
 
 -- 20 first
 unfoldable pub lineAsked : List (List ℕ) → Lent → Booked

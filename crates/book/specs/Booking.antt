@@ -1,10 +1,10 @@
 -- Document 01, "Book": 20, 1 to 10, 13, 11, 12; then order 14, 15; delivery 17 or 18, 16, 21, 19; report 16.
 use Prim.Native.Nat.{ℕ, _+_}
 use mathlib.Core.Bool.{Bool, true, false, _&&_, _||_}
-use mathlib.Core.List.{List, [], _∷_, _++_}
+use mathlib.Core.List.{List, [], _∷_, map}
 use lib.Dec.{eqb, leb, ltb}
 use lib.ListN.{length, getD, set}
-use Rattle.cells.specs.Bytes.{pick, bytes, same}
+use Rattle.cells.specs.Bytes.{pick, bytes, same, joined}
 use Rattle.rules.specs.Class.{allOf}
 use Rattle.rules.specs.Values.{copies, copiesOf}
 use Rattle.rules.specs.declared.amount.Copies.{Copies}
@@ -64,10 +64,9 @@ refusedPlace SlipDiffers = 0
 refusedPlace SlipsUsed = 0
 refusedPlace TooManyArrived = 0
 
--- the fields of a record with these indexes, one after the other
-unfoldable pub fieldsAt : Kind → List ℕ → List ℕ → List ℕ
-fieldsAt k [] s = []
-fieldsAt k (i ∷ is) s = fieldBytes k i s ++ fieldsAt k is s
+-- the fields of a record with these indexes
+abbrev pub fieldsIn : Kind → List ℕ → List ℕ → List (List ℕ)
+fieldsIn k is s = map (λ (i : ℕ). fieldBytes k i s) is
 
 -- a line's key is school address and qualifier, supplier address and qualifier, reference, article and qualifier; in B101 the school is the sender, in L101 and M101 the recipient
 unfoldable pub keyFields : Kind → List ℕ
@@ -77,14 +76,14 @@ keyFields Closing = []
 keyFields Report = 3 ∷ 4 ∷ 1 ∷ 2 ∷ 6 ∷ 7 ∷ 8 ∷ []
 
 unfoldable pub lineKey : Kind → List ℕ → List ℕ
-lineKey k s = fieldsAt k (keyFields k) s
+lineKey k s = joined (fieldsIn k (keyFields k) s)
 
 -- a slip's key is supplier and school with qualifiers, date, slip number, position
 abbrev pub slipFields : List ℕ
 slipFields = 1 ∷ 2 ∷ 3 ∷ 4 ∷ 5 ∷ 6 ∷ 7 ∷ []
 
 unfoldable pub slipKey : List ℕ → List ℕ
-slipKey s = fieldsAt Goods slipFields s
+slipKey s = joined (fieldsIn Goods slipFields s)
 
 -- the quantity of an order or a delivery
 unfoldable pub copiesIn : Kind → List ℕ → Copies

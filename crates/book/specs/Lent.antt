@@ -51,10 +51,14 @@ unfoldable pub allFrom : (ℕ → Bool) → ℕ → ℕ → Bool
 allFrom p zero i = true
 allFrom p (suc n) i = p i && allFrom p n (suc i)
 
+-- both rooms are of right size
+unfoldable pub roomsSound : Lent → Bool
+roomsSound b = roomSound lineWidth mostLines (length (b .lines)) && roomSound slipWidth mostSlips (length (b .slips))
+
 -- a book is sound if used counts are within the room, each slip names a used line, Q is 1 to 9,999, A at most 9,999,999, the mark one of the three
 unfoldable pub sound : Lent → Bool
 sound b =
-    (roomSound lineWidth mostLines (length (b .lines)) && roomSound slipWidth mostSlips (length (b .slips)))
+    roomsSound b
     && ((leb (usedLines b) (lineRoom b) && leb (usedSlips b) (slipRoom b))
     && (allFrom (lineSound (b .lines)) (usedLines b) 0 && allFrom (slipSound (usedLines b) (b .slips)) (usedSlips b) 0))
 

@@ -1,5 +1,3 @@
-// The book in lent bytes: search, soundness, keys, and a record judged.
+// The book in lent bytes: its answers, search and soundness.
 pub mod answer;
-pub mod judge;
-pub mod keys;
 pub mod seek;

@@ -17,7 +17,7 @@ use Rattle.entry.specs.declared.line.Mark.the-variants.{Held, Dropped}
 use Rattle.book.specs.Lent.{lent, usedLines, usedSlips}
 use Rattle.book.specs.Booking.{lineKey, slipKey, copiesIn, markIn, newLine, lineAfter, lentAfter, outcome, doneAs, enteredAs}
 use Rattle.values.proofs.Places.{delivery-width, report-width}
-use Rattle.book.proofs.Named.{slip-key-is}
+use Rattle.judging.proofs.Named.{slip-key-is}
 
 -- the field with the mark is one byte
 mark-byte : (s : List ℕ) → fixedWidth Report ≤ length s → fieldBytes Report 10 s ≡ getD s 66 0 ∷ []

@@ -8,8 +8,6 @@ ghost use Rattle.book.specs.Lent.{mostLines, mostSlips, lent};
 ghost use Rattle.book.specs.Booking.{copiesIn, newLine, markIn, outcome, enteredAs};
 use book::answer::Booked;
 use book::answer::done;
-use book::keys::order_key;
-use book::keys::slip_key;
 use cells::part;
 use entry::line::Line;
 use entry::line::Mark;
@@ -17,21 +15,18 @@ use entry::stored::read_line;
 use entry::stored::write_line;
 use entry::stored::write_new_line;
 use entry::stored::write_slip;
+use judging::keys::order_key;
+use judging::keys::slip_key;
 use record::layout::Kind;
+use record::places::HOLD;
+use record::places::ORDER_MEASURE;
+use record::places::ORDER_QUANTITY;
+use record::places::PRICE;
+use record::places::QUANTITY;
 use rules::amount::Copies;
 use rules::amount::copies_of;
 
-// Where the fields that are entered start, and end.
-const ORDER_QUANTITY: usize = 61;
-
-const ORDER_MEASURE: usize = 65;
-
-const QUANTITY: usize = 75;
-
-const PRICE: usize = 79;
-
-const HOLD: usize = 66;
-
+// The mark that holds an order open.
 const LETTER_J: u8 = 74;
 
 // A new line: nothing has arrived, no mark.

@@ -10,6 +10,7 @@ use feed::ends;
 use feed::hold;
 use feed::left_length;
 use feed::start;
+use libc::STDERR_FILENO;
 use libc::STDIN_FILENO;
 use libc::STDOUT_FILENO;
 
@@ -132,6 +133,19 @@ fn take_bytes(
     reading
 }
 
+// The input failed before its end was read. What is held is given up: a record whose end was never read is not booked.
+fn given_up(number: u64) -> Reading {
+    io::write_all(
+        STDERR_FILENO,
+        b"desk: the input could not be read to its end; what stands after the last record printed is not booked\n",
+    );
+    Reading {
+        held: start(),
+        number: number,
+        more: false,
+    }
+}
+
 // There is nothing more to read.
 fn over(at: Reading) -> Reading {
     let held = at.held;
@@ -152,7 +166,10 @@ fn take_some(
 ) -> Reading {
     let mut space = io::large_buffer();
     let got = libc::read(STDIN_FILENO, &mut space);
-    if got <= 0 {
+    if got < 0 {
+        return given_up(at.number);
+    }
+    if got == 0 {
         return over(at);
     }
     let n = io::count(got, &space);

@@ -7,13 +7,13 @@ use mir.Val.{Val}
 use denote.Laws.{Is}
 use denote.Struct.Declared.{row}
 use borrow.Author.Needs.{length-unmapped}
+use Rattle.cells.specs.Bytes.{joined}
 use Rattle.record.specs.declared.values.Party.{Party}
 use Rattle.record.specs.declared.values.Article.{Article}
 use Rattle.record.specs.declared.values.Order.{Order}
 use Rattle.record.specs.declared.values.Delivery.{Delivery}
 use Rattle.record.specs.declared.values.Report.{Report}
 use Rattle.writing.specs.Digits.{numberBytes}
-use Rattle.writing.specs.Typed.{joined}
 use Rattle.writing.proofs.Decimals.{number-length}
 use Rattle.record.proofs.values.Party as party
 use Rattle.record.proofs.values.Article as article

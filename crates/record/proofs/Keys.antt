@@ -14,7 +14,7 @@ use Rattle.cells.proofs.Bools.{split}
 use Rattle.rules.specs.declared.rule.Rule.{Rule}
 use Rattle.rules.specs.declared.rule.Rule.the-variants.{Free, Of, Padded, Named, OneOf as Texted, DayCount, Date, ExpectedDate, Article}
 use Rattle.rules.proofs.rule.Rule.{the-type}
-use Rattle.record.specs.Contents.{Listed, _∶_, contents, isIn, ruleIn, contentRule, groups, groupWith}
+use Rattle.record.specs.Contents.{Listed, _have_, contents, isIn, ruleIn, contentRule, groups, groupWith}
 
 -- a function of the ID that has one value at each of an arm's keys has it in the arm
 pub in-arm : {A : Type 0} (f : ℕ → A) (v : A) (ks : List ℕ) (x : ℕ) → map f ks ≡ map (λ (k : ℕ). v) ks → OneOf ks x → v ≡ f x
@@ -69,7 +69,7 @@ in-no-row (row ∷ rows) x N h =
 
 -- the row with an index
 abbrev pub rowAt : List Listed → ℕ → Listed
-rowAt rows i = getD rows i ([] ∶ Free)
+rowAt rows i = getD rows i ([] have Free)
 
 -- each ID of each row has the row's rule, by computation
 abbrev Told : List Listed → Type 0

@@ -14,40 +14,40 @@ use Rattle.record.specs.declared.layout.Kind.{Kind}
 use Rattle.record.specs.declared.layout.Kind.the-variants.{Order, Goods, Closing, Report}
 
 -- a row of the table: IDs and the rule of their contents
-infix 70 _∶_
+infix 70 _have_
 pub record Listed : Type 0 where
   pub ids : List ℕ
   pub rule : Rule
 
-abbrev pub _∶_ : List ℕ → Rule → Listed
-is ∶ r = record { ids = is; rule = r }
+abbrev pub _have_ : List ℕ → Rule → Listed
+is have r = record { ids = is; rule = r }
 
 unfoldable pub contents : List Listed
 contents =
-    (1001 ∷ 1003 ∷ 1101 ∷ []) ∶ Of Any 1 35
-    ∷ (1005 ∷ 1007 ∷ 1013 ∷ 1018 ∷ 1030 ∷ 1102 ∷ 1108 ∷ 1114 ∷ 1116 ∷ 1202 ∷ 1204 ∷ []) ∶ Of Capital 2 2
-    ∷ (1009 ∷ []) ∶ Of Any 3 3
-    ∷ (1017 ∷ []) ∶ Of Any 1 39
-    ∷ (9010 ∷ []) ∶ Of Any 1 40
-    ∷ (1019 ∷ []) ∶ OneOf PartTax
-    ∷ (1021 ∷ 1045 ∷ []) ∶ OneOf HoldMark
-    ∷ (1025 ∷ []) ∶ Of Digit 5 8
-    ∷ (1029 ∷ []) ∶ Of Digit 5 15
-    ∷ (1032 ∷ []) ∶ Of Capital 3 3
-    ∷ (1047 ∷ []) ∶ OneOf YesOnly
-    ∷ (9003 ∷ []) ∶ OneOf YesOrU
-    ∷ (1051 ∷ 1113 ∷ []) ∶ Of Any 1 5
-    ∷ (1107 ∷ 9007 ∷ []) ∶ Of Digit 1 4
-    ∷ (1115 ∷ []) ∶ Of Any 1 10
-    ∷ (1129 ∷ []) ∶ Of Digit 1 6
-    ∷ (1131 ∷ []) ∶ Of Any 1 3
-    ∷ (1151 ∷ []) ∶ OneOf Medium
-    ∷ (1201 ∷ []) ∶ Date
-    ∷ (1203 ∷ []) ∶ DayCount
-    ∷ (9001 ∷ []) ∶ Of Any 1 1
-    ∷ (9011 ∷ []) ∶ Of Digit 1 14
-    ∷ (9012 ∷ []) ∶ Of Digit 13 13
-    ∷ (9016 ∷ []) ∶ Of Digit 1 4
+    (1001 ∷ 1003 ∷ 1101 ∷ []) have Of Any 1 35
+    ∷ (1005 ∷ 1007 ∷ 1013 ∷ 1018 ∷ 1030 ∷ 1102 ∷ 1108 ∷ 1114 ∷ 1116 ∷ 1202 ∷ 1204 ∷ []) have Of Capital 2 2
+    ∷ (1009 ∷ []) have Of Any 3 3
+    ∷ (1017 ∷ []) have Of Any 1 39
+    ∷ (9010 ∷ []) have Of Any 1 40
+    ∷ (1019 ∷ []) have OneOf PartTax
+    ∷ (1021 ∷ 1045 ∷ []) have OneOf HoldMark
+    ∷ (1025 ∷ []) have Of Digit 5 8
+    ∷ (1029 ∷ []) have Of Digit 5 15
+    ∷ (1032 ∷ []) have Of Capital 3 3
+    ∷ (1047 ∷ []) have OneOf YesOnly
+    ∷ (9003 ∷ []) have OneOf YesOrU
+    ∷ (1051 ∷ 1113 ∷ []) have Of Any 1 5
+    ∷ (1107 ∷ 9007 ∷ []) have Of Digit 1 4
+    ∷ (1115 ∷ []) have Of Any 1 10
+    ∷ (1129 ∷ []) have Of Digit 1 6
+    ∷ (1131 ∷ []) have Of Any 1 3
+    ∷ (1151 ∷ []) have OneOf Medium
+    ∷ (1201 ∷ []) have Date
+    ∷ (1203 ∷ []) have DayCount
+    ∷ (9001 ∷ []) have Of Any 1 1
+    ∷ (9011 ∷ []) have Of Digit 1 14
+    ∷ (9012 ∷ []) have Of Digit 13 13
+    ∷ (9016 ∷ []) have Of Digit 1 4
     ∷ []
 
 unfoldable pub isIn : ℕ → List ℕ → Bool

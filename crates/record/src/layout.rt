@@ -5,6 +5,12 @@ ghost use lib.ListN.{length, getD, drop};
 ghost use Rattle.record.specs.Layout.{_∶_, noField, head, layout, fixedWidth, startOf, kindOf, firstBroken};
 ghost use Rattle.rules.specs.declared.rule.Rule.the-variants.{Of};
 ghost use Rattle.record.specs.declared.layout.Kind.the-variants.{Order, Goods, Closing, Report};
+use crate::places::DATE_START;
+use crate::places::PARTIES_END;
+use crate::places::RECIPIENT;
+use crate::places::RECIPIENT_QUALIFIER;
+use crate::places::SENDER;
+use crate::places::SENDER_QUALIFIER;
 use cells::part;
 use cells::same;
 use rules::class::Class;
@@ -23,8 +29,6 @@ pub const MOST_FIELDS: usize = 64;
 
 pub const KIND_WIDTH: usize = 4;
 
-pub const DATE_START: usize = 28;
-
 pub const ORDER_WIDTH: usize = 67;
 
 pub const DELIVERY_WIDTH: usize = 108;
@@ -37,17 +41,7 @@ pub const DELIVERY_FIELDS: usize = 17;
 
 pub const REPORT_FIELDS: usize = 13;
 
-// Where the fields that every record begins with stand after the kind, and where they end.
-const SENDER: usize = 4;
-
-const SENDER_QUALIFIER: usize = 14;
-
-const RECIPIENT: usize = 16;
-
-const RECIPIENT_QUALIFIER: usize = 26;
-
-const HEAD_END: usize = 28;
-
+// The fields that every record begins with.
 const HEAD_FIELDS: usize = 5;
 
 // A fixed field: its length and its rule.
@@ -308,7 +302,7 @@ fn head_broken(s: &[u8]) -> usize
     ) {
         return 3;
     }
-    if !is_one_of(Texts::Party, part(s, RECIPIENT_QUALIFIER, HEAD_END)) {
+    if !is_one_of(Texts::Party, part(s, RECIPIENT_QUALIFIER, PARTIES_END)) {
         return 4;
     }
     HEAD_FIELDS
@@ -319,7 +313,7 @@ fn rest_broken(k: Kind, s: &[u8]) -> usize
     ensures { λ r. ⌜ r ≡ 5 + firstBroken (drop 5 (layout k)) (drop 28 (now (s .entry))) ⌝ }
 {
     let count = field_count(k);
-    let mut at = HEAD_END;
+    let mut at = PARTIES_END;
     let mut i = HEAD_FIELDS;
     while i < count {
         let f = field_of(k, i);

@@ -3,4 +3,5 @@ pub mod answer;
 pub mod contents;
 pub mod fields;
 pub mod layout;
+pub mod places;
 pub mod values;

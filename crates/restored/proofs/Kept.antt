@@ -12,13 +12,12 @@ use Rattle.cells.specs.Little.{leAt}
 use Rattle.cells.proofs.Bools.{and-left, and-right}
 use Rattle.record.specs.declared.layout.Kind.the-variants.{Goods}
 use Rattle.entry.specs.Stored.{lineWidth, keyWidth, markAt, arrivedAt, slipKeyWidth, mostCopies, mostArrived, lineAt, lineSound, slipLineAt, slipSound}
-use Rattle.book.specs.Lent.{Lent, usedLines, usedSlips, lineRoom, slipRoom, sound}
+use Rattle.book.specs.Lent.{Lent, usedLines, usedSlips, lineRoom, slipRoom, sound, roomsSound}
 use Rattle.book.specs.Booking.{keyFields, slipFields}
 use Rattle.book.proofs.Searches.{all-at}
 use Rattle.balance.proofs.Listings.{each-place}
 use Rattle.save.specs.Entries.{referenceAt, slipNumberAt, keyKept, lineKept, slipKept, partiesAgree, lineIndex, slipCopies, isFirst, arrivedOn, linesKept, slipsKept, sumsKept, entriesKept}
 use Rattle.save.specs.Saved.{lineBodyAt, slipBodyAt}
-use Rattle.save.specs.Load.{roomsSound}
 use Rattle.restored.proofs.Bodies.{line-copies, line-mark, slip-line}
 
 -- what the rules of a save say of a slip: its key keeps them, it has copies, and it names one of n lines, of its school and supplier

@@ -8,7 +8,7 @@ use borrow.Author.Tests.{eq-eqb}
 use lib.Dec.{lit<}
 use lib.ListN.{length, getD, take, length-map}
 use lib.Seq.{slice, take-append-add, drop-append-seam, take-at, drop-at}
-use Rattle.cells.specs.Bytes.{all, among}
+use Rattle.cells.specs.Bytes.{all, among, joined}
 use Rattle.cells.proofs.Bools.{and-right}
 use Rattle.cells.proofs.Lists.{same-refl, all-take, all-drop, all-append}
 use Rattle.rules.specs.Class.{belongs, allOf, ofClass, padded, named}
@@ -25,20 +25,20 @@ use Rattle.record.specs.declared.layout.Field.{Field}
 use Rattle.record.specs.declared.layout.Kind.{Kind}
 use Rattle.record.specs.declared.layout.Kind.the-variants.{Order, Goods}
 use Rattle.reader.proofs.Fitting.{Fitting}
-use Rattle.book.specs.Booking.{fieldsAt, keyFields, lineKey, slipFields, slipKey, nothingToBook, noReference}
+use Rattle.book.specs.Booking.{keyFields, lineKey, slipFields, slipKey, nothingToBook, noReference, fieldsIn}
 use Rattle.record.proofs.Kept.{each-kept, field-length}
 use Rattle.save.specs.Entries.{referenceAt, slipNumberAt, nameWidth, goodsFields, keyKept, partiesAgree}
 use Rattle.restored.proofs.Cuts.{part-past}
 
 -- a test that holds at each byte of a list holds at each byte of some of its fields
 module _ (p : ℕ → Bool) where
-  pub all-fields : (k : Kind) (is s : List ℕ) → all p s ≡ true → all p (fieldsAt k is s) ≡ true
-  unfolding fieldsAt fieldBytes all
+  pub all-fields : (k : Kind) (is s : List ℕ) → all p s ≡ true → all p (joined (fieldsIn k is s)) ≡ true
+  unfolding joined fieldBytes all
   all-fields k [] s e = refl
   all-fields k (i ∷ is) s e =
       let from : ℕ = startOf (layout k) i in
       let to : ℕ = startOf (layout k) (suc i) in
-      rw (all-append p (slice from to s) (fieldsAt k is s), all-drop p from (take to s) (all-take p to s e)) (all-fields k is s e)
+      rw (all-append p (slice from to s) (joined (fieldsIn k is s)), all-drop p from (take to s) (all-take p to s e)) (all-fields k is s e)
 
 -- every byte is of the class of any byte
 all-any : (s : List ℕ) → all (belongs Any) s ≡ true
@@ -158,7 +158,7 @@ module _ (s : List ℕ) (n : ℕ) (f : Fitting Order s n) where
 
   -- the key keeps the rules
   pub order-key-kept : noReference Order s ≡ false → keyKept (keyFields Goods) referenceAt (lineKey Order s) ≡ true
-  unfolding lineKey keyFields fieldsAt layout keeps noReference
+  unfolding lineKey keyFields joined layout keeps noReference
   order-key-kept e =
       let at : ℕ → List ℕ = λ i. fieldBytes Order i s in
       let size = fit-size Order s n f in
@@ -177,7 +177,7 @@ module _ (s : List ℕ) (n : ℕ) (f : Fitting Order s n) where
 module _ (s : List ℕ) (n : ℕ) (f : Fitting Goods s n) where
   -- the key keeps the rules
   pub slip-key-kept : nothingToBook Goods s ≡ false → keyKept slipFields slipNumberAt (slipKey s) ≡ true
-  unfolding slipKey fieldsAt layout keeps nothingToBook
+  unfolding slipKey joined layout keeps nothingToBook
   slip-key-kept e =
       let at : ℕ → List ℕ = λ i. fieldBytes Goods i s in
       let size = fit-size Goods s n f in
@@ -195,7 +195,7 @@ module _ (s : List ℕ) (n : ℕ) (f : Fitting Goods s n) where
 
   -- its school and supplier are its line's
   pub goods-parties : partiesAgree (slipKey s) (lineKey Goods s) ≡ true
-  unfolding slipKey lineKey keyFields fieldsAt layout
+  unfolding slipKey lineKey keyFields joined layout
   goods-parties =
       let at : ℕ → List ℕ = λ i. fieldBytes Goods i s in
       let size = fit-size Goods s n f in

@@ -10,10 +10,10 @@ use lib.Seq.{slice, length-slice, length-sets, take-at, drop-at, getD-set-same, 
 use Rattle.cells.specs.Little.{leAt, leBytes}
 use Rattle.cells.proofs.Numbers.{le-back}
 use Rattle.entry.specs.Stored.{lineWidth, slipWidth, mostArrived, lineAt}
-use Rattle.book.specs.Lent.{Lent, usedLines, usedSlips, lineRoom, slipRoom}
+use Rattle.book.specs.Lent.{Lent, usedLines, usedSlips, lineRoom, slipRoom, roomsSound}
 use Rattle.save.specs.Entries.{arrivedOn, entriesKept}
 use Rattle.save.specs.Saved.{joinedFrom, lineBodyAt, slipBodyAt, statedLines, statedSlips, lineIn, slipIn, isSave}
-use Rattle.save.specs.Load.{roomsSound, loadedLine, lentLoaded}
+use Rattle.save.specs.Load.{loadedLine, lentLoaded}
 use Rattle.save.proofs.Joined.{joined-length}
 use Rattle.restored.specs.Restored.{Tells}
 use Rattle.save.proofs.Within.{number-within, front-within}

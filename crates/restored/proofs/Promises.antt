@@ -6,9 +6,9 @@ use Prim.Native.Nat.{ℕ}
 use lib.Dec.{leb}
 use lib.ListN.{length}
 use Rattle.cells.proofs.Bools.{split}
-use Rattle.book.specs.Lent.{Lent, usedLines, usedSlips, lineRoom, slipRoom, sound}
+use Rattle.book.specs.Lent.{Lent, usedLines, usedSlips, lineRoom, slipRoom, sound, roomsSound}
 use Rattle.save.specs.Saved.{Written, written, savedWidth, save, statedLines, statedSlips, isSave}
-use Rattle.save.specs.Load.{Outcome, outcome, roomsSound, load}
+use Rattle.save.specs.Load.{Outcome, outcome, load}
 use Rattle.save.specs.declared.answer.Saved.{Saved}
 use Rattle.save.specs.declared.answer.Loaded.{Loaded}
 

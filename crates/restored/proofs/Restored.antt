@@ -11,9 +11,9 @@ use lib.Seq.{take-at}
 use borrow.Author.Tests.{leb-true, le-leb}
 use Rattle.cells.proofs.Bools.{split, and-left, and-right}
 use Rattle.entry.specs.Stored.{lineWidth, slipWidth}
-use Rattle.book.specs.Lent.{Lent, usedLines, usedSlips, lineRoom, slipRoom}
+use Rattle.book.specs.Lent.{Lent, usedLines, usedSlips, lineRoom, slipRoom, roomsSound}
 use Rattle.save.specs.Saved.{refusedNumber, notSaved, savedForm, savedWidth, save, statedLines, statedSlips, isSave}
-use Rattle.save.specs.Load.{Outcome, doneAs, outcome, roomsSound, notLoaded, lentLoaded, load}
+use Rattle.save.specs.Load.{Outcome, doneAs, outcome, notLoaded, lentLoaded, load}
 use Rattle.restored.specs.Restored.{Bytes, Orderly, SameBook, Holds, savedBytes, LoadOfSave, SaveOfLoad, Tells, Refuses, ToldOrRefused, LoadsExactly}
 use Rattle.restored.proofs.Cuts.{stored-front}
 use Rattle.restored.proofs.Loaded.{loaded-count-lines, loaded-count-slips, front-lines, front-slips, loaded-tells}

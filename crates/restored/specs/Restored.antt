@@ -9,10 +9,10 @@ use lib.ListN.{length, take, drop}
 use lib.Seq.{sets}
 use Rattle.cells.specs.Bytes.{all}
 use Rattle.entry.specs.Stored.{lineWidth, slipWidth, lineAt}
-use Rattle.book.specs.Lent.{Lent, usedLines, usedSlips, lineRoom, slipRoom, sound}
+use Rattle.book.specs.Lent.{Lent, usedLines, usedSlips, lineRoom, slipRoom, sound, roomsSound}
 use Rattle.save.specs.Entries.{arrivedOn, entriesKept}
 use Rattle.save.specs.Saved.{Written, lineBodyAt, slipBodyAt, save, statedLines, statedSlips, lineIn, slipIn, isSave}
-use Rattle.save.specs.Load.{Outcome, roomsSound, load}
+use Rattle.save.specs.Load.{Outcome, load}
 
 -- a list of bytes
 abbrev pub Bytes : List ℕ → Type 0

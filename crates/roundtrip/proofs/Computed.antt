@@ -7,7 +7,7 @@ use native.Mathlib.Omega.{arith}
 use borrow.Author.Tests.{leb-true}
 use lib.Dec.{leb}
 use lib.ListN.{length, take}
-use Rattle.cells.specs.Bytes.{bytes, all, any, run, same, among}
+use Rattle.cells.specs.Bytes.{bytes, all, any, run, same, among, joined}
 use Rattle.rules.specs.Class.{belongs, allOf, ofClass, padded, named}
 use Rattle.rules.specs.Number.{numberFrom}
 use Rattle.rules.specs.Day.{leap, monthDays, realDay, dayOf, isDay}
@@ -22,7 +22,6 @@ use Rattle.record.specs.declared.layout.Kind.the-variants.{Order, Goods}
 use Rattle.record.specs.declared.layout.Kinded.the-variants.{Known, Unknown}
 use Rattle.writing.specs.Digits.{digitsOf}
 use Rattle.writing.specs.Write.{fieldText, optionalText, recordText}
-use Rattle.writing.specs.Typed.{joined}
 use Rattle.roundtrip.specs.Record.{Parts, fixedPart, textOf, fixedKept, optionalKept, MakesRecord}
 use Rattle.roundtrip.specs.Cases.{field, orderFields, xFields, ordering, yParts, zParts, closingParts, titled, shortFields, letters, withByte}
 

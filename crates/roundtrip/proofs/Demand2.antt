@@ -5,7 +5,7 @@ use mathlib.Core.List.{List, _++_}
 use Prim.Native.Nat.{ℕ, _+_, _≤_}
 use lib.ListN.{length, take, drop, take-append-drop}
 use lib.Seq.{slice}
-use Rattle.cells.specs.Bytes.{pick, bytes, all, same}
+use Rattle.cells.specs.Bytes.{pick, bytes, all, same, joined}
 use Rattle.cells.proofs.Lists.{same-refl, all-take}
 use Rattle.rules.specs.Class.{belongs, ofClass}
 use Rattle.rules.specs.Day.{dayWidth}
@@ -28,7 +28,7 @@ use Rattle.record.specs.declared.values.Report.{Report}
 use Rattle.reader.proofs.Stages.{as-named}
 use Rattle.reader.proofs.Fitting.{fitting, name-of, fits-known, fits-long}
 use Rattle.writing.specs.Write.{entries, optionalOf}
-use Rattle.writing.specs.Typed.{joined, orderFields, deliveryFields, reportFields, orderBytes, deliveryBytes, reportBytes}
+use Rattle.writing.specs.Typed.{orderFields, deliveryFields, reportFields, orderBytes, deliveryBytes, reportBytes}
 use Rattle.roundtrip.specs.Demand2.{readCall, writeCall, ReadsBack, WritesBack, Demand2, OrderShaped, DeliveryShaped, ReportShaped, OrderReadsBack, DeliveryReadsBack, ReportReadsBack}
 use Rattle.roundtrip.proofs.Typed.{order-values, delivery-values, report-values, order-bytes-of, delivery-bytes-of, report-bytes-of}
 use Rattle.roundtrip.proofs.ReadExactly.{verdict-fits, tabled-fits, reads-parts, read-exactly}

@@ -7,7 +7,7 @@ use native.Mathlib.Nat.{add-zero, zero-add}
 use native.Mathlib.Omega.{arith}
 use lib.ListN.{length, getD, take}
 use lib.Seq.{slice, take-nil, take-at, drop-at}
-use Rattle.cells.specs.Bytes.{all}
+use Rattle.cells.specs.Bytes.{all, joined}
 use Rattle.cells.proofs.Bools.{and-left, and-right}
 use Rattle.cells.proofs.Parts.{slice-drop, nothing, parts-join}
 use Rattle.cells.proofs.Lists.{all-append}
@@ -17,7 +17,6 @@ use Rattle.record.specs.Values.{fieldBytes}
 use Rattle.record.specs.declared.layout.Field.{Field}
 use Rattle.record.specs.declared.layout.Kind.{Kind}
 use Rattle.record.proofs.Kept.{each-kept}
-use Rattle.writing.specs.Typed.{joined}
 
 -- how long the fields of a layout are
 abbrev pub sizes : List Field → List ℕ

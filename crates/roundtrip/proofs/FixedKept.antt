@@ -9,6 +9,7 @@ use borrow.Author.Tests.{eqb-true, eq-eqb}
 use lib.Dec.{eqb}
 use lib.ListN.{length, take, drop, length-append}
 use lib.Seq.{slice, take-at, drop-at, take-all, drop-drop, length-slice}
+use Rattle.cells.specs.Bytes.{joined}
 use Rattle.cells.proofs.Bools.{and-left, and-right}
 use Rattle.cells.proofs.Parts.{take-from, to-end}
 use Rattle.rules.specs.Rule.{keeps}
@@ -16,7 +17,6 @@ use Rattle.record.specs.Layout.{layout, total, fixedWidth, startOf, firstBroken
 use Rattle.record.specs.declared.layout.Field.{Field}
 use Rattle.record.specs.declared.layout.Kind.{Kind}
 use Rattle.record.proofs.Kept.{each-kept}
-use Rattle.writing.specs.Typed.{joined}
 use Rattle.roundtrip.specs.Record.{asideWidth, fixedKept}
 use Rattle.roundtrip.proofs.FixedFields.{fieldsFrom, fields-there, fields-joined}
 

@@ -6,7 +6,7 @@ use Prim.Native.Nat.{ℕ, _+_, _≤_}
 use native.Mathlib.Omega.{arith}
 use lib.ListN.{length, getD, take}
 use lib.Seq.{slice}
-use Rattle.cells.specs.Bytes.{pick, bytes, same}
+use Rattle.cells.specs.Bytes.{pick, bytes, same, joined}
 use Rattle.rules.specs.Class.{belongs, ofClass}
 use Rattle.rules.specs.Number.{number}
 use Rattle.rules.specs.Day.{dayWidth, dayKept}
@@ -22,7 +22,7 @@ use Rattle.record.specs.declared.values.Order.{Order}
 use Rattle.record.specs.declared.values.Delivery.{Delivery}
 use Rattle.record.specs.declared.values.Report.{Report}
 use Rattle.reader.proofs.Fitting.{Fitting, fitting, name-of, fits-as}
-use Rattle.writing.specs.Typed.{deliveryDayBytes, joined, orderFields, deliveryFields, reportFields, orderBytes, deliveryBytes, reportBytes}
+use Rattle.writing.specs.Typed.{deliveryDayBytes, orderFields, deliveryFields, reportFields, orderBytes, deliveryBytes, reportBytes}
 use Rattle.writing.proofs.Decimals.{number-length}
 use Rattle.writing.proofs.Days.{day-length, delivery-day-length, expected-length}
 use Rattle.roundtrip.specs.Demand2.{OrderShaped, DeliveryShaped, ReportShaped}

@@ -5,7 +5,7 @@ use mathlib.Core.Bool.{Bool, true, false, _&&_}
 use mathlib.Core.List.{List, [], _∷_}
 use lib.Dec.{eqb, ltb}
 use lib.ListN.{length, take}
-use Rattle.cells.specs.Bytes.{all}
+use Rattle.cells.specs.Bytes.{all, joined}
 use Rattle.rules.specs.Class.{belongs}
 use Rattle.rules.specs.Rule.{keeps}
 use Rattle.rules.specs.declared.class.Class.the-variants.{Allowed}
@@ -18,7 +18,6 @@ use Rattle.record.specs.declared.layout.Kind.{Kind}
 use Rattle.record.specs.declared.layout.Kinded.the-variants.{Known}
 use Rattle.writing.specs.Write.{entries, optionalOf, recordText}
 use Rattle.writing.specs.Widths.{allInside}
-use Rattle.writing.specs.Typed.{joined}
 
 -- the parts that a record is made of: its kind, the fields of its fixed part in order, and its optional fields in order
 pub record Parts : Type 0 where

@@ -1,6 +1,6 @@
 -- The cases of booking hold of the definitions, by computation.
 use mathlib.Core.Path.{_≡_, refl}
-use Rattle.cells.specs.Bytes.{all, any, run, same, among}
+use Rattle.cells.specs.Bytes.{all, any, run, same, among, joined}
 use Rattle.cells.specs.Little.{leAt, leBytes}
 use Rattle.rules.specs.Class.{belongs, allOf, ofClass, padded, named}
 use Rattle.rules.specs.Number.{numberFrom}
@@ -17,15 +17,15 @@ use Rattle.record.specs.Samples.{X, Z, cases, firstWrong}
 use Rattle.record.specs.Edges.{fullTable}
 use Rattle.entry.specs.Line.{markByte, withMark, withArrivals, openOf, letGoOf, filledOf, figuresOf}
 use Rattle.entry.specs.Stored.{lineAt, lineBytes, putLine, addLine, keyAt, keyIs, lineSound, slipKeyAt, slipIs, slipLineAt, slipCopiesAt, addSlip, slipSound}
-use Rattle.book.specs.Lent.{usedLines, usedSlips, lineRoom, slipRoom, roomSound, firstFrom, allFrom, sound, findLine, findSlip}
-use Rattle.book.specs.Booking.{refusedNumber, refusedPlace, fieldsAt, keyFields, lineKey, slipKey, copiesIn, nothingToBook, noCopies, noReference, markIn, orderJudged, slipJudged, arrivalJudged, goodsJudged, deliveryJudged, reportJudged, bookJudged, fitJudged, newLine, lineAfter, lentAfter, refusedAs, doneAs, enteredAs, settled, bookAs, bookKind, bookRead, book}
-use Rattle.book.specs.Asked.{areWide, keyOf, figuresAt, figuresOfKey, lineAsked}
+use Rattle.book.specs.Lent.{usedLines, usedSlips, lineRoom, slipRoom, roomSound, firstFrom, allFrom, sound, findLine, findSlip, roomsSound}
+use Rattle.book.specs.Booking.{refusedNumber, refusedPlace, keyFields, lineKey, slipKey, copiesIn, nothingToBook, noCopies, noReference, markIn, orderJudged, slipJudged, arrivalJudged, goodsJudged, deliveryJudged, reportJudged, bookJudged, fitJudged, newLine, lineAfter, lentAfter, refusedAs, doneAs, enteredAs, settled, bookAs, bookKind, bookRead, book}
+use Rattle.book.specs.Asked.{areWide, figuresAt, figuresOfKey, lineAsked}
 use Rattle.book.specs.Cases.{roomy, desk, sample, sampleSays, others, othersSay, says, unsound, answersTo, unsoundSays, asked, askedSay}
 use Rattle.book.specs.Pairs.{trials, firstWrong as trialWrong}
 
 -- the line that X adds, asked for by its key
 calls-by-key : asked (book X (roomy 1 1) .lent) ≡ askedSay
-unfolding all any run same among leAt leBytes belongs allOf ofClass padded named numberFrom leap monthDays realDay dayOf isDay checkValue weighted gs1 isbn seriesVolume article texts dayCount expected keeps layout total fixedWidth startOf kindOf firstBroken contents isIn ruleIn contentRule guardedIds guarded contentKept groups firstOf nextIn previousIn groupWith nextMember previousMember isWanted groupKept refusalNumber refusalPlace checkedOf _then_ headOf idIn idOf contentWidth contentOf fieldWidth afterField onHead atField walk judge fieldBytes bytesJudged fixedJudged afterWalk optionalJudged kindJudged judged markByte withMark withArrivals openOf letGoOf filledOf figuresOf lineAt lineBytes putLine addLine keyAt keyIs lineSound slipKeyAt slipIs slipLineAt slipCopiesAt addSlip slipSound usedLines usedSlips lineRoom slipRoom roomSound firstFrom allFrom sound findLine findSlip refusedNumber refusedPlace fieldsAt keyFields lineKey slipKey copiesIn nothingToBook noCopies noReference markIn orderJudged slipJudged arrivalJudged goodsJudged deliveryJudged reportJudged bookJudged fitJudged newLine lineAfter lentAfter refusedAs doneAs enteredAs settled bookAs bookKind bookRead book areWide keyOf figuresAt figuresOfKey lineAsked asked askedSay
+unfolding all any run same among leAt leBytes belongs allOf ofClass padded named numberFrom leap monthDays realDay dayOf isDay checkValue weighted gs1 isbn seriesVolume article texts dayCount expected keeps layout total fixedWidth startOf kindOf firstBroken contents isIn ruleIn contentRule guardedIds guarded contentKept groups firstOf nextIn previousIn groupWith nextMember previousMember isWanted groupKept refusalNumber refusalPlace checkedOf _then_ headOf idIn idOf contentWidth contentOf fieldWidth afterField onHead atField walk judge fieldBytes bytesJudged fixedJudged afterWalk optionalJudged kindJudged judged markByte withMark withArrivals openOf letGoOf filledOf figuresOf lineAt lineBytes putLine addLine keyAt keyIs lineSound slipKeyAt slipIs slipLineAt slipCopiesAt addSlip slipSound usedLines usedSlips lineRoom slipRoom roomSound roomsSound firstFrom allFrom sound findLine findSlip refusedNumber refusedPlace joined keyFields lineKey slipKey copiesIn nothingToBook noCopies noReference markIn orderJudged slipJudged arrivalJudged goodsJudged deliveryJudged reportJudged bookJudged fitJudged newLine lineAfter lentAfter refusedAs doneAs enteredAs settled bookAs bookKind bookRead book areWide joined figuresAt figuresOfKey lineAsked asked askedSay
 calls-by-key = refl
 
 pub record Computed : Type 0 where
@@ -40,5 +40,5 @@ pub record Computed : Type 0 where
   pub ordered : trialWrong 1 trials ≡ 0
 
 pub computed : Computed
-unfolding all any run same among leAt leBytes belongs allOf ofClass padded named numberFrom leap monthDays realDay dayOf isDay checkValue weighted gs1 isbn seriesVolume article texts dayCount expected keeps layout total fixedWidth startOf kindOf firstBroken contents isIn ruleIn contentRule guardedIds guarded contentKept groups firstOf nextIn previousIn groupWith nextMember previousMember isWanted groupKept refusalNumber refusalPlace checkedOf _then_ headOf idIn idOf contentWidth contentOf fieldWidth afterField onHead atField walk judge fieldBytes bytesJudged fixedJudged afterWalk optionalJudged kindJudged judged entriesOf optionalStart tableAfter check fullTable cases firstWrong markByte withMark withArrivals openOf letGoOf filledOf figuresOf lineAt lineBytes putLine addLine keyAt keyIs lineSound slipKeyAt slipIs slipLineAt slipCopiesAt addSlip slipSound usedLines usedSlips lineRoom slipRoom roomSound firstFrom allFrom sound findLine findSlip refusedNumber refusedPlace fieldsAt keyFields lineKey slipKey copiesIn nothingToBook noCopies noReference markIn orderJudged slipJudged arrivalJudged goodsJudged deliveryJudged reportJudged bookJudged fitJudged newLine lineAfter lentAfter refusedAs doneAs enteredAs settled bookAs bookKind bookRead book desk sample sampleSays others othersSay unsound answersTo unsoundSays trials trialWrong
+unfolding all any run same among leAt leBytes belongs allOf ofClass padded named numberFrom leap monthDays realDay dayOf isDay checkValue weighted gs1 isbn seriesVolume article texts dayCount expected keeps layout total fixedWidth startOf kindOf firstBroken contents isIn ruleIn contentRule guardedIds guarded contentKept groups firstOf nextIn previousIn groupWith nextMember previousMember isWanted groupKept refusalNumber refusalPlace checkedOf _then_ headOf idIn idOf contentWidth contentOf fieldWidth afterField onHead atField walk judge fieldBytes bytesJudged fixedJudged afterWalk optionalJudged kindJudged judged entriesOf optionalStart tableAfter check fullTable cases firstWrong markByte withMark withArrivals openOf letGoOf filledOf figuresOf lineAt lineBytes putLine addLine keyAt keyIs lineSound slipKeyAt slipIs slipLineAt slipCopiesAt addSlip slipSound usedLines usedSlips lineRoom slipRoom roomSound roomsSound firstFrom allFrom sound findLine findSlip refusedNumber refusedPlace joined keyFields lineKey slipKey copiesIn nothingToBook noCopies noReference markIn orderJudged slipJudged arrivalJudged goodsJudged deliveryJudged reportJudged bookJudged fitJudged newLine lineAfter lentAfter refusedAs doneAs enteredAs settled bookAs bookKind bookRead book desk sample sampleSays others othersSay unsound answersTo unsoundSays trials trialWrong
 computed = record { samples = refl; desk-sample = refl; desk-others = refl; broken = refl; keyed = calls-by-key; ordered = refl }

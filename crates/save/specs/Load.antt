@@ -1,23 +1,18 @@
 -- Document 01, "Saved book": loading a save into a lent book. Load: 20 for room sizes alone, 22, 23.
 use Prim.Native.Nat.{ℕ}
-use mathlib.Core.Bool.{Bool, _&&_}
+use mathlib.Core.Bool.{_&&_}
 use mathlib.Core.List.{List, _++_}
 use lib.Dec.{leb}
-use lib.ListN.{length, set}
+use lib.ListN.{set}
 use lib.Seq.{sets}
 use Rattle.cells.specs.Bytes.{pick}
 use Rattle.cells.specs.Little.{leBytes}
-use Rattle.entry.specs.Stored.{lineWidth, slipWidth}
-use Rattle.book.specs.Lent.{Lent, mostLines, mostSlips, lineRoom, slipRoom, roomSound}
+use Rattle.book.specs.Lent.{Lent, lineRoom, slipRoom, roomsSound}
 use Rattle.save.specs.Entries.{arrivedOn}
 use Rattle.save.specs.Saved.{refusedNumber, joinedFrom, statedLines, statedSlips, lineIn, slipIn, isSave}
 use Rattle.save.specs.declared.answer.Refused.{Refused}
 use Rattle.save.specs.declared.answer.Refused.the-variants.{Unsound, NoSave, TooSmall}
 use Rattle.save.specs.declared.answer.Loaded.{Loaded}
-
--- the rooms alone are of right size
-unfoldable pub roomsSound : Lent → Bool
-roomsSound b = roomSound lineWidth mostLines (length (b .lines)) && roomSound slipWidth mostSlips (length (b .slips))
 
 -- a line of the book from a save of n lines and m slips: its body, and as A the sum of its slips
 unfoldable pub loadedLine : List ℕ → ℕ → ℕ → ℕ → List ℕ

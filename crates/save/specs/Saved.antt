@@ -38,15 +38,21 @@ abbrev pub slipBodyWidth : ℕ
 slipBodyWidth = slipWidth
 
 -- a byte of kind and a body
+abbrev pub kindByte : ℕ
+kindByte = 1
+
 abbrev pub savedLineWidth : ℕ
-savedLineWidth = 53
+savedLineWidth = kindByte + lineBodyWidth
 
 abbrev pub savedSlipWidth : ℕ
-savedSlipWidth = 51
+savedSlipWidth = kindByte + slipBodyWidth
 
--- the end: a byte of kind, used lines 2, used slips 2
+-- the end: a byte of kind, then the used lines and the used slips
+abbrev pub countWidth : ℕ
+countWidth = 2
+
 abbrev pub endWidth : ℕ
-endWidth = 5
+endWidth = kindByte + (countWidth + countWidth)
 
 -- what stands at the n places from i on, one after the other
 unfoldable pub joinedFrom : (ℕ → List ℕ) → ℕ → ℕ → List ℕ
@@ -68,7 +74,7 @@ unfoldable pub slipEntries : List ℕ → ℕ → List ℕ
 slipEntries slips m = joinedFrom (λ j. slipKind ∷ slipBodyAt slips j) m 0
 
 unfoldable pub endEntry : ℕ → ℕ → List ℕ
-endEntry n m = endKind ∷ (leBytes 2 n ++ leBytes 2 m)
+endEntry n m = endKind ∷ (leBytes countWidth n ++ leBytes countWidth m)
 
 -- the saved book: lines first, then slips, in book order, then the end
 unfoldable pub savedForm : Lent → List ℕ
@@ -100,24 +106,24 @@ save b out =
 
 -- how far before the end of a save its counts stand
 abbrev pub linesBack : ℕ
-linesBack = 4
+linesBack = countWidth + countWidth
 
 abbrev pub slipsBack : ℕ
-slipsBack = 2
+slipsBack = countWidth
 
 -- the counts that the end of a save states
 unfoldable pub statedLines : List ℕ → ℕ
-statedLines s = leAt s (length s - linesBack) 2
+statedLines s = leAt s (length s - linesBack) countWidth
 
 unfoldable pub statedSlips : List ℕ → ℕ
-statedSlips s = leAt s (length s - slipsBack) 2
+statedSlips s = leAt s (length s - slipsBack) countWidth
 
 -- the body of the line with an index in a save, and of the slip with an index in a save of n lines
 unfoldable pub lineIn : List ℕ → ℕ → List ℕ
-lineIn s i = slice (savedLineWidth * i + 1) (savedLineWidth * i + savedLineWidth) s
+lineIn s i = slice (savedLineWidth * i + kindByte) (savedLineWidth * i + savedLineWidth) s
 
 unfoldable pub slipIn : List ℕ → ℕ → ℕ → List ℕ
-slipIn s n j = slice (savedLineWidth * n + savedSlipWidth * j + 1) (savedLineWidth * n + savedSlipWidth * j + savedSlipWidth) s
+slipIn s n j = slice (savedLineWidth * n + savedSlipWidth * j + kindByte) (savedLineWidth * n + savedSlipWidth * j + savedSlipWidth) s
 
 -- each of the entries of a width, count of them from a place on, begins with a kind
 unfoldable pub allOfKind : ℕ → ℕ → ℕ → ℕ → List ℕ → Bool

@@ -12,6 +12,16 @@ ghost use Rattle.book.specs.Booking.{keyFields, slipFields};
 use cells::little::get2;
 use cells::part;
 use cells::same;
+use entry::key::ARTICLE_AT;
+use entry::key::ARTICLE_QUALIFIER_AT;
+use entry::key::DATE_AT;
+use entry::key::FIRST_QUALIFIER_AT;
+use entry::key::PARTIES_WIDTH;
+use entry::key::POSITION_AT;
+use entry::key::REFERENCE_AT;
+use entry::key::SECOND_PARTY_AT;
+use entry::key::SECOND_QUALIFIER_AT;
+use entry::key::SLIP_NUMBER_AT;
 use entry::stored::ARRIVED_AT;
 use entry::stored::KEY_WIDTH;
 use entry::stored::MARK_AT;
@@ -19,6 +29,7 @@ use entry::stored::MOST_COPIES;
 use entry::stored::MOST_MARK;
 use entry::stored::SLIP_COPIES_AT;
 use entry::stored::SLIP_KEY_WIDTH;
+use entry::stored::SLIP_WIDTH;
 use rules::article::is_article;
 use rules::class::Class;
 use rules::class::all_of;
@@ -30,33 +41,12 @@ use rules::rule::Texts;
 use rules::rule::is_day;
 use rules::rule::is_one_of;
 
-// A byte of kind and a body.
-pub const SAVED_LINE_WIDTH: usize = 53;
+// A byte of kind and a body: a line's is the front of its entry, without A; a slip's its entry.
+pub const KIND_BYTE: usize = 1;
 
-pub const SAVED_SLIP_WIDTH: usize = 51;
+pub const SAVED_LINE_WIDTH: usize = KIND_BYTE + ARRIVED_AT;
 
-// Both keys begin with two addresses, each with its qualifier.
-const PARTY_WIDTH: usize = 12;
-
-const FIRST_QUALIFIER_AT: usize = 10;
-
-const SECOND_QUALIFIER_AT: usize = 22;
-
-const PARTIES_END: usize = 24;
-
-// Where the other fields of a line's key stand.
-const REFERENCE_AT: usize = 24;
-
-const ARTICLE_AT: usize = 34;
-
-const ARTICLE_QUALIFIER_AT: usize = 47;
-
-// And those of a slip's key.
-const DATE_AT: usize = 24;
-
-const SLIP_NUMBER_AT: usize = 32;
-
-const POSITION_AT: usize = 42;
+pub const SAVED_SLIP_WIDTH: usize = KIND_BYTE + SLIP_WIDTH;
 
 const POSITION_WIDTH: usize = 4;
 
@@ -65,14 +55,14 @@ fn are_parties(key: &[u8]) -> bool
     ensures { λ r. ⌜ r ≡ eqb (firstBroken (goodsFields (1 ∷ 2 ∷ 3 ∷ 4 ∷ [])) (now (key .entry))) 4 ⌝ }
 {
     (is_padded(Class::Account, 1, 10, part(key, 0, FIRST_QUALIFIER_AT))
-        & is_one_of(Texts::Party, part(key, FIRST_QUALIFIER_AT, PARTY_WIDTH)))
+        & is_one_of(Texts::Party, part(key, FIRST_QUALIFIER_AT, SECOND_PARTY_AT)))
         & (is_padded(
             Class::Account,
             1,
             10,
-            part(key, PARTY_WIDTH, SECOND_QUALIFIER_AT),
+            part(key, SECOND_PARTY_AT, SECOND_QUALIFIER_AT),
         )
-            & is_one_of(Texts::Party, part(key, SECOND_QUALIFIER_AT, PARTIES_END)))
+            & is_one_of(Texts::Party, part(key, SECOND_QUALIFIER_AT, PARTIES_WIDTH)))
 }
 
 // Whether a line's key keeps the rules: its parties, its reference, which is not blank, and its article with its qualifier.
@@ -129,12 +119,12 @@ fn do_parties_agree(slip: &[u8], line: &[u8]) -> bool
     ensures { λ r. ⌜ r ≡ partiesAgree (now (slip .entry)) (now (line .entry)) ⌝ }
 {
     same(
-        part(slip, 0, PARTY_WIDTH),
-        part(line, PARTY_WIDTH, PARTIES_END),
+        part(slip, 0, SECOND_PARTY_AT),
+        part(line, SECOND_PARTY_AT, PARTIES_WIDTH),
     )
         & same(
-            part(slip, PARTY_WIDTH, PARTIES_END),
-            part(line, 0, PARTY_WIDTH),
+            part(slip, SECOND_PARTY_AT, PARTIES_WIDTH),
+            part(line, 0, SECOND_PARTY_AT),
         )
 }
 
@@ -143,7 +133,7 @@ pub fn line_in(s: &[u8], i: usize) -> &[u8]
     requires { ⌜ savedLineWidth * i + savedLineWidth ≤ length (now s) ⌝ }
     ensures { λ r. ⌜ now r ≡ lineIn (now (s .entry)) i ⌝ }
 {
-    let at = SAVED_LINE_WIDTH * i + 1;
+    let at = SAVED_LINE_WIDTH * i + KIND_BYTE;
     let end = at + ARRIVED_AT;
     &s[at..end]
 }

@@ -6,6 +6,7 @@ ghost use Rattle.rules.specs.Values.{copies};
 ghost use Rattle.entry.specs.Stored.{keyWidth, slipKeyWidth};
 ghost use Rattle.save.specs.Entries.{isFirst, copiesOn, arrivedOn, linesKept, slipsKept, sumsKept};
 ghost use Rattle.save.specs.Saved.{savedLineWidth, savedSlipWidth, lineIn, slipIn, allOfKind, inForm, isSave};
+use crate::entries::KIND_BYTE;
 use crate::entries::SAVED_LINE_WIDTH;
 use crate::entries::SAVED_SLIP_WIDTH;
 use crate::entries::is_line_kept;
@@ -22,12 +23,15 @@ use entry::stored::SLIP_KEY_WIDTH;
 use entry::stored::SLIP_WIDTH;
 use rules::amount::Copies;
 
-pub const END_WIDTH: usize = 5;
+// The end: a byte of kind, then the used lines and the used slips.
+const COUNT_WIDTH: usize = 2;
+
+pub const END_WIDTH: usize = KIND_BYTE + COUNT_WIDTH + COUNT_WIDTH;
 
 // How far before the end of a save its counts stand.
-pub const LINES_BACK: usize = 4;
+pub const LINES_BACK: usize = COUNT_WIDTH + COUNT_WIDTH;
 
-pub const SLIPS_BACK: usize = 2;
+pub const SLIPS_BACK: usize = COUNT_WIDTH;
 
 pub const LINE_KIND: u8 = 1;
 
@@ -40,7 +44,7 @@ pub fn slip_in(s: &[u8], n: usize, j: usize) -> &[u8]
     requires { ⌜ savedLineWidth * n + savedSlipWidth * j + savedSlipWidth ≤ length (now s) ⌝ }
     ensures { λ r. ⌜ now r ≡ slipIn (now (s .entry)) n j ⌝ }
 {
-    let at = SAVED_LINE_WIDTH * n + SAVED_SLIP_WIDTH * j + 1;
+    let at = SAVED_LINE_WIDTH * n + SAVED_SLIP_WIDTH * j + KIND_BYTE;
     let end = at + SLIP_WIDTH;
     &s[at..end]
 }
@@ -50,7 +54,7 @@ fn line_key_in(s: &[u8], i: usize) -> &[u8]
     requires { ⌜ savedLineWidth * i + savedLineWidth ≤ length (now s) ⌝ }
     ensures { λ r. ⌜ now r ≡ take keyWidth (lineIn (now (s .entry)) i) ⌝ }
 {
-    let at = SAVED_LINE_WIDTH * i + 1;
+    let at = SAVED_LINE_WIDTH * i + KIND_BYTE;
     let end = at + KEY_WIDTH;
     &s[at..end]
 }
@@ -60,7 +64,7 @@ fn slip_key_in(s: &[u8], n: usize, j: usize) -> &[u8]
     requires { ⌜ savedLineWidth * n + savedSlipWidth * j + savedSlipWidth ≤ length (now s) ⌝ }
     ensures { λ r. ⌜ now r ≡ take slipKeyWidth (slipIn (now (s .entry)) n j) ⌝ }
 {
-    let at = SAVED_LINE_WIDTH * n + SAVED_SLIP_WIDTH * j + 1;
+    let at = SAVED_LINE_WIDTH * n + SAVED_SLIP_WIDTH * j + KIND_BYTE;
     let end = at + SLIP_KEY_WIDTH;
     &s[at..end]
 }
@@ -102,7 +106,7 @@ fn copies_on(s: &[u8], n: usize, j: usize, i: usize) -> Copies
     requires { ⌜ savedLineWidth * n + savedSlipWidth * j + savedSlipWidth ≤ length (now s) ⌝ }
     ensures { λ r. ⌜ (r ≡ copies (copiesOn (slipIn (now (s .entry)) n) i j)) × (r .0 < 65536) ⌝ }
 {
-    let at = SAVED_LINE_WIDTH * n + SAVED_SLIP_WIDTH * j + 1;
+    let at = SAVED_LINE_WIDTH * n + SAVED_SLIP_WIDTH * j + KIND_BYTE;
     if get2(s, at + SLIP_KEY_WIDTH) as usize == i {
         return Copies(get2(s, at + SLIP_COPIES_AT));
     }

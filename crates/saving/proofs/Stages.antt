@@ -9,11 +9,11 @@ use lib.Dec.{leb, ltb}
 use lib.ListN.{length}
 use lib.Seq.{sets}
 use Rattle.cells.proofs.Stores.{sets-append}
-use Rattle.book.specs.Lent.{Lent, usedLines, usedSlips, lineRoom, slipRoom, sound}
+use Rattle.book.specs.Lent.{Lent, usedLines, usedSlips, lineRoom, slipRoom, sound, roomsSound}
 use Rattle.book.proofs.Sounds.{Sound, sound-so}
 use Rattle.save.specs.Saved.{Written, written, lineKind, slipKind, joinedFrom, lineBodyAt, slipBodyAt, lineEntries, slipEntries, endEntry, savedForm, savedWidth, endWidth, notSaved, save, statedLines, statedSlips, lineIn, slipIn, inForm, isSave}
 use Rattle.save.specs.Entries.{entriesKept}
-use Rattle.save.specs.Load.{Outcome, outcome, roomsSound, lentLoaded, notLoaded, doneAs, load}
+use Rattle.save.specs.Load.{Outcome, outcome, lentLoaded, notLoaded, doneAs, load}
 use Rattle.save.proofs.Forms.{form-long}
 use Rattle.cells.proofs.Bools.{split, and-left, and-right}
 use Rattle.save.specs.declared.answer.Refused.the-variants.{Unsound, NoSave, TooSmall}

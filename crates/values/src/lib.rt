@@ -9,6 +9,30 @@ ghost use Rattle.record.specs.Values.{orderOf, deliveryOf, reportOf, noParty, n
 use cells::part;
 use cells::paste_at;
 use record::layout::Kind;
+use record::places::ARTICLE;
+use record::places::CURRENCY;
+use record::places::DATE_START;
+use record::places::DISCOUNT;
+use record::places::EXPECTED;
+use record::places::HOLD;
+use record::places::MESSAGE;
+use record::places::ORDER_ARTICLE;
+use record::places::ORDER_MEASURE;
+use record::places::ORDER_QUANTITY;
+use record::places::ORDER_REFERENCE;
+use record::places::PARTIAL;
+use record::places::POSITION;
+use record::places::PRICE;
+use record::places::PRICING;
+use record::places::QUANTITY;
+use record::places::RECIPIENT;
+use record::places::REFERENCE;
+use record::places::REPORT_ARTICLE;
+use record::places::REPORT_REFERENCE;
+use record::places::REPORT_SLIP;
+use record::places::SENDER;
+use record::places::SLIP;
+use record::places::TAX;
 use record::values::Article;
 use record::values::Delivery;
 use record::values::Order;
@@ -25,55 +49,6 @@ use rules::day::Day;
 use rules::expected::Expected;
 use rules::expected::expected_of;
 use rules::number::number_of;
-
-// Where the fields start; each ends where the next one starts.
-const SENDER: usize = 4;
-
-const RECIPIENT: usize = 16;
-
-const DATE: usize = 28;
-
-const ORDER_REFERENCE: usize = 36;
-
-const ORDER_ARTICLE: usize = 46;
-
-const ORDER_QUANTITY: usize = 61;
-
-const ORDER_MEASURE: usize = 65;
-
-const SLIP: usize = 36;
-
-const POSITION: usize = 46;
-
-const REFERENCE: usize = 50;
-
-const ARTICLE: usize = 60;
-
-const QUANTITY: usize = 75;
-
-const PRICE: usize = 79;
-
-const PRICING: usize = 94;
-
-const CURRENCY: usize = 96;
-
-const DISCOUNT: usize = 99;
-
-const TAX: usize = 107;
-
-const REPORT_SLIP: usize = 28;
-
-const REPORT_REFERENCE: usize = 38;
-
-const REPORT_ARTICLE: usize = 48;
-
-const MESSAGE: usize = 63;
-
-const HOLD: usize = 66;
-
-const EXPECTED: usize = 67;
-
-const PARTIAL: usize = 75;
 
 // The bytes from a place on as an array, at each width that a field has.
 fn bytes2(s: &[u8], at: usize) -> [u8; 2]
@@ -168,7 +143,7 @@ pub fn order_of(s: &[u8]) -> Order
 {
     let sender = party_at(s, SENDER);
     let recipient = party_at(s, RECIPIENT);
-    let date = day_of(part(s, DATE, ORDER_REFERENCE));
+    let date = day_of(part(s, DATE_START, ORDER_REFERENCE));
     let reference = bytes10(s, ORDER_REFERENCE);
     let article = article_at(s, ORDER_ARTICLE);
     let quantity = copies_of(part(s, ORDER_QUANTITY, ORDER_MEASURE));
@@ -191,7 +166,7 @@ pub fn delivery_of(s: &[u8]) -> Delivery
 {
     let sender = party_at(s, SENDER);
     let recipient = party_at(s, RECIPIENT);
-    let date = day_of(part(s, DATE, SLIP));
+    let date = day_of(part(s, DATE_START, SLIP));
     let slip = bytes10(s, SLIP);
     let position = bytes4(s, POSITION);
     let reference = bytes10(s, REFERENCE);

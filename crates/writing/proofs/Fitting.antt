@@ -18,7 +18,7 @@ use Rattle.record.specs.declared.layout.Kinded.{Kinded}
 use Rattle.record.specs.declared.layout.Kinded.the-variants.{Known, Unknown}
 use Rattle.record.proofs.Layouts.{total-most}
 use Rattle.writing.specs.Widths.{widthAfter, allInside}
-use Rattle.writing.specs.Write.{_then_, firstFaulty, fixedJudged, entries, optionalOf, nextId, entryKept, fieldsJudged, recordText, lengthJudged, restJudged, writeJudged}
+use Rattle.writing.specs.Write.{_next_, firstFaulty, fixedJudged, entries, optionalOf, nextId, entryKept, fieldsJudged, recordText, lengthJudged, restJudged, writeJudged}
 use Rattle.writing.specs.declared.answer.Refusal.{Refusal}
 use Rattle.writing.specs.declared.answer.Verdict.{Verdict}
 use Rattle.writing.specs.declared.answer.Verdict.the-variants.{Refused, Fits}
@@ -36,13 +36,13 @@ refuses-false true v r n e = (refl, e)
 refuses-false false v r n e = let z : _≡_ {A = ℕ} 0 1 = cc in absurd (omega arith)
 
 -- a verdict that fits after a stage: the stage fits too, and so does the rest
-then-first : (a b : Verdict) (n : ℕ) → (a then b) ≡ Fits n → (m : ℕ) × (a ≡ Fits m)
-unfolding _then_
+then-first : (a b : Verdict) (n : ℕ) → (a next b) ≡ Fits n → (m : ℕ) × (a ≡ Fits m)
+unfolding _next_
 then-first (Refused r) b n e = let z : _≡_ {A = ℕ} 0 1 = cc in absurd (omega arith)
 then-first (Fits m) b n e = (m, refl)
 
-then-second : (a b : Verdict) (n : ℕ) → (a then b) ≡ Fits n → b ≡ Fits n
-unfolding _then_
+then-second : (a b : Verdict) (n : ℕ) → (a next b) ≡ Fits n → b ≡ Fits n
+unfolding _next_
 then-second (Refused r) b n e = let z : _≡_ {A = ℕ} 0 1 = cc in absurd (omega arith)
 then-second (Fits m) b n e = e
 

@@ -9,7 +9,7 @@ use Rattle.record.specs.Contents.{noMember}
 use Rattle.record.specs.Read.{entryWidth}
 use Rattle.record.specs.declared.layout.Kind.{Kind}
 use Rattle.record.specs.declared.layout.Kinded.the-variants.{Known}
-use Rattle.writing.specs.Write.{_then_, firstFaulty, fixedJudged, entries, optionalOf, fieldsJudged, recordText, lengthJudged, restJudged, writeJudged, writtenOf, outcome, outputAfter, write}
+use Rattle.writing.specs.Write.{_next_, firstFaulty, fixedJudged, entries, optionalOf, fieldsJudged, recordText, lengthJudged, restJudged, writeJudged, writtenOf, outcome, outputAfter, write}
 use Rattle.writing.specs.declared.answer.Refusal.{Refusal}
 use Rattle.writing.specs.declared.answer.Refusal.the-variants.{FixedField, TooManyFields, SmallTable}
 use Rattle.writing.specs.declared.answer.Verdict.the-variants.{Refused, Fits}
@@ -43,23 +43,23 @@ module _ (k : Kind) (fixed table : List ℕ) (count : ℕ) (contents out : List 
     module _ (g : count * entryWidth ≤ length table) where
       pub fields-refused : (r : Refusal) → fieldsJudged k contents noMember 0 (entries count table) ≡ Refused r
           → restJudged (Known k) fixed table count contents out ≡ Refused r
-      unfolding restJudged _then_
+      unfolding restJudged _next_
       fields-refused r e = rw (le-ltb _ _ h, le-ltb _ _ g, e)
 
       pub fields-fit : (m : ℕ) → fieldsJudged k contents noMember 0 (entries count table) ≡ Fits m
           → restJudged (Known k) fixed table count contents out ≡ lengthJudged (length (recordText fixed (optionalOf contents (entries count table)))) out
-      unfolding restJudged _then_
+      unfolding restJudged _next_
       fields-fit m e = rw (le-ltb _ _ h, le-ltb _ _ g, e)
 
 -- 5, then the rest
 module _ (fixed table : List ℕ) (count : ℕ) (contents out : List ℕ) where
   pub fixed-refused : (r : Refusal) → fixedJudged (kindOf fixed) fixed ≡ Refused r → writeJudged fixed table count contents out ≡ Refused r
-  unfolding writeJudged _then_
+  unfolding writeJudged _next_
   fixed-refused r e = rw e
 
   pub fixed-passed : (m : ℕ) → fixedJudged (kindOf fixed) fixed ≡ Fits m
       → writeJudged fixed table count contents out ≡ restJudged (kindOf fixed) fixed table count contents out
-  unfolding writeJudged _then_
+  unfolding writeJudged _next_
   fixed-passed m e = rw e
 
   -- what is said and what stands in the output afterwards

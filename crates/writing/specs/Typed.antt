@@ -4,7 +4,7 @@ use mathlib.Core.Bool.{Bool, _&&_}
 use mathlib.Core.List.{List, [], _∷_, _++_}
 use lib.Dec.{eqb}
 use lib.ListN.{replicate}
-use Rattle.cells.specs.Bytes.{pick, bytes}
+use Rattle.cells.specs.Bytes.{pick, bytes, joined}
 use Rattle.rules.specs.Day.{dayWidth, realDay}
 use Rattle.rules.specs.declared.day.Day.{Day}
 use Rattle.rules.specs.declared.expected.Expected.{Expected}
@@ -33,11 +33,6 @@ unfoldable pub expectedBytes : Expected → List ℕ
 expectedBytes (On d) = dayBytes d
 expectedBytes Zeros = replicate dayWidth 48
 expectedBytes Blanks = replicate dayWidth 32
-
--- lists one after the other
-unfoldable pub joined : List (List ℕ) → List ℕ
-joined [] = []
-joined (p ∷ ps) = p ++ joined ps
 
 -- the fields of each kind's fixed part, in the order of its layout
 unfoldable pub orderFields : Order → List (List ℕ)

@@ -49,10 +49,11 @@ unfoldable pub writtenOf : Verdict → Written
 writtenOf (Refused r) = record { answer = refusalNumber r; place = refusalPlace r; length = 0 }
 writtenOf (Fits n) = record { answer = 0; place = 0; length = n }
 
-infixr 20 _then_
-unfoldable pub _then_ : Verdict → Verdict → Verdict
-Refused r then b = Refused r
-Fits n then b = b
+-- the first refusal of two stages of writing
+infixr 20 _next_
+unfoldable pub _next_ : Verdict → Verdict → Verdict
+Refused r next b = Refused r
+Fits n next b = b
 
 -- the index of the field that the byte at a place stands in, or the number of fields where it stands past them
 unfoldable pub fieldHolding : List Field → ℕ → ℕ
@@ -145,10 +146,10 @@ restJudged (Known k) fixed table count contents out =
     pick (ltb mostFields count) (Refused TooManyFields)
     (pick (ltb (length table) (count * entryWidth)) (Refused SmallTable)
     (fieldsJudged k contents noMember 0 (entries count table)
-    then lengthJudged (length (recordText fixed (optionalOf contents (entries count table)))) out))
+    next lengthJudged (length (recordText fixed (optionalOf contents (entries count table)))) out))
 
 unfoldable pub writeJudged : List ℕ → List ℕ → ℕ → List ℕ → List ℕ → Verdict
-writeJudged fixed table count contents out = fixedJudged (kindOf fixed) fixed then restJudged (kindOf fixed) fixed table count contents out
+writeJudged fixed table count contents out = fixedJudged (kindOf fixed) fixed next restJudged (kindOf fixed) fixed table count contents out
 
 -- what writing says, and the lent output afterwards: the record in front on success, else as it was
 pub record Outcome : Type 0 where

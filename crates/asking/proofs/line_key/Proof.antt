@@ -1,7 +1,8 @@
 -- `asking::line_key` meets its contract: the fields, stored one after the other, fill the array.
 use native.Mathlib.Omega.{arith}
 use lib.Seq.{length-sets}
-use Rattle.asking.proofs.Filled.{key-wide, filled-end, filled-next, filled-whole}
+use Rattle.cells.proofs.Filled.{filled-end, filled-next, filled-whole}
+use Rattle.asking.proofs.Wide.{key-wide}
 use borrow.Author.Needs.{needs}
 use Rattle.asking.proofs.line_key.Statement.{statement}
 use Rattle.asking.proofs.line_key.Tie as tie

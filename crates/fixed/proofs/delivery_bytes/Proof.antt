@@ -1,10 +1,11 @@
 -- `fixed::delivery_bytes` meets its contract: each field stands behind the one before, and together they fill the array.
 use mathlib.Core.Path.{refl, sym}
 use native.Mathlib.Omega.{arith}
-use Rattle.writing.specs.Typed.{joined, deliveryFields, deliveryBytes}
+use Rattle.cells.specs.Bytes.{joined}
+use Rattle.writing.specs.Typed.{deliveryFields, deliveryBytes}
 use Rattle.writing.proofs.Days.{delivery-day-length}
 use Rattle.fixed.proofs.Values.{delivery-wide, amounts-length}
-use Rattle.fixed.proofs.Filled.{filled-last, filled-next, filled-two, filled-whole}
+use Rattle.cells.proofs.Filled.{filled-last, filled-next, filled-two, filled-whole}
 use borrow.Author.Needs.{needs}
 use Rattle.fixed.proofs.delivery_bytes.Statement.{statement}
 use Rattle.fixed.proofs.delivery_bytes.Tie as tie

@@ -5,7 +5,7 @@ use Rattle.writing.specs.Typed.{orderFields, orderBytes}
 use Rattle.writing.proofs.Decimals.{number-length}
 use Rattle.writing.proofs.Days.{day-length}
 use Rattle.fixed.proofs.Values.{order-wide}
-use Rattle.fixed.proofs.Filled.{filled-end, filled-next, filled-two, filled-whole}
+use Rattle.cells.proofs.Filled.{filled-end, filled-next, filled-two, filled-whole}
 use borrow.Author.Needs.{needs}
 use Rattle.fixed.proofs.order_bytes.Statement.{statement}
 use Rattle.fixed.proofs.order_bytes.Tie as tie

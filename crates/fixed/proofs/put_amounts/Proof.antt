@@ -1,10 +1,10 @@
 -- `fixed::put_amounts` meets its contract: each value stands behind the one before.
 use mathlib.Core.Path.{refl, sym}
 use native.Mathlib.Omega.{arith}
-use Rattle.writing.specs.Typed.{joined}
+use Rattle.cells.specs.Bytes.{joined}
 use Rattle.writing.proofs.Decimals.{number-length}
 use Rattle.fixed.proofs.Values.{amounts, delivery-wide}
-use Rattle.fixed.proofs.Filled.{filled-end, filled-first, filled-next, filled-from}
+use Rattle.cells.proofs.Filled.{filled-end, filled-first, filled-next, filled-from}
 use borrow.Author.Needs.{needs}
 use Rattle.fixed.proofs.put_amounts.Statement.{statement}
 use Rattle.fixed.proofs.put_amounts.Tie as tie

@@ -7,9 +7,8 @@ use lib.Dec.{ltb, leb}
 use lib.ListN.{length}
 use borrow.Author.Tests.{leb-true}
 use Rattle.cells.proofs.Bools.{is-not, is-so, and-left, and-right}
-use Rattle.book.specs.Lent.{lent, lineRoom, slipRoom}
+use Rattle.book.specs.Lent.{lent, lineRoom, slipRoom, roomsSound}
 use Rattle.save.specs.Saved.{statedLines, statedSlips, isSave}
-use Rattle.save.specs.Load.{roomsSound}
 use Rattle.saving.proofs.Stages.{small-either, load-unsound, load-no-save, load-small, load-done, save-long}
 use borrow.Author.Needs.{needs}
 use Rattle.saving.proofs.load.Statement.{statement}

@@ -5,7 +5,7 @@ use borrow.Author.Tests.{le-leb, lt-leb}
 use lib.ListN.{length}
 use denote.Ref.{now}
 use Rattle.cells.proofs.Bools.{is-not, is-so}
-use Rattle.book.specs.Lent.{roomSound, sound, usedLines, usedSlips, lineRoom, slipRoom}
+use Rattle.book.specs.Lent.{roomSound, sound, usedLines, usedSlips, lineRoom, slipRoom, roomsSound}
 use borrow.Author.Needs.{needs}
 use Rattle.book.proofs.seek.is_sound.Statement.{statement}
 use Rattle.book.proofs.seek.is_sound.Tie as tie
@@ -21,7 +21,7 @@ is-room-requires-2 : tie.Need-is-room-requires-2
 is-room-requires-2 c κs = search needs
 
 returns : tie.Need-returns
-unfolding sound
+unfolding sound roomsSound
 returns c = rw (is-not (ap₂ (λ (a b : Bool). a && b) (c .before .before .is-room .ensures) (c .before .is-room2 .ensures)) (c .if1 .taken))
 
 element-copy-out-used-lines : tie.Need-element-copy-out-used-lines
@@ -31,18 +31,18 @@ element-copy-out-used-slips : tie.Need-element-copy-out-used-slips
 element-copy-out-used-slips c = search needs
 
 returns-2 : tie.Need-returns-2
-unfolding sound usedLines usedSlips lineRoom slipRoom
+unfolding sound roomsSound usedLines usedSlips lineRoom slipRoom
 returns-2 c = rw (rooms (c .before .before .before), lt-leb _ _ (c .if2 .taken))
 
 returns-3 : tie.Need-returns-3
-unfolding sound usedLines usedSlips lineRoom slipRoom
+unfolding sound roomsSound usedLines usedSlips lineRoom slipRoom
 returns-3 c = rw (rooms (c .before .before .before .before), le-leb _ _ (c .before .if2 .left), lt-leb _ _ (c .if3 .taken))
 
 are-lines-sound-requires : tie.Need-are-lines-sound-requires
 are-lines-sound-requires c κs = search needs
 
 returns-4 : tie.Need-returns-4
-unfolding sound usedLines usedSlips lineRoom slipRoom
+unfolding sound roomsSound usedLines usedSlips lineRoom slipRoom
 returns-4 c =
     let fits = c .before .before in
     rw (rooms (fits .before .before .before .before), le-leb _ _ (fits .before .if2 .left), le-leb _ _ (fits .if3 .left), is-not (c .before .are-lines-sound .ensures) (c .if4 .taken))
@@ -51,7 +51,7 @@ are-slips-sound-requires : tie.Need-are-slips-sound-requires
 are-slips-sound-requires c κs = search needs
 
 returns-5 : tie.Need-returns-5
-unfolding sound usedLines usedSlips lineRoom slipRoom
+unfolding sound roomsSound usedLines usedSlips lineRoom slipRoom
 returns-5 c =
     let fits = c .before .before .before in
     rw (rooms (fits .before .before .before .before), le-leb _ _ (fits .before .if2 .left), le-leb _ _ (fits .if3 .left), is-so (c .before .before .are-lines-sound .ensures) (c .before .if4 .left), c .are-slips-sound .ensures)

@@ -1,7 +1,7 @@
 -- `booking::enter::enter_goods` meets its contract.
 use native.Mathlib.Omega.{arith}
 use Rattle.rules.proofs.Parts.{part-most}
-use Rattle.book.proofs.Stages.{goods-copies}
+use Rattle.judging.proofs.Stages.{goods-copies}
 use Rattle.booking.proofs.Entered.{slip-key-width, goods-entered}
 use borrow.Author.Needs.{needs}
 use Rattle.booking.proofs.enter.enter_goods.Statement.{statement}

@@ -1,7 +1,7 @@
 -- `booking::enter::enter_order` meets its contract.
 use native.Mathlib.Omega.{arith}
 use Rattle.rules.proofs.Parts.{part-most}
-use Rattle.book.proofs.Stages.{order-copies}
+use Rattle.judging.proofs.Stages.{order-copies}
 use Rattle.booking.proofs.Entered.{order-entered}
 use borrow.Author.Needs.{needs}
 use Rattle.booking.proofs.enter.enter_order.Statement.{statement}

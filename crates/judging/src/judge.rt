@@ -1,0 +1,141 @@
+// What a sound book says of a record that is read: nothing is written yet.
+ghost use mathlib.Core.Path.{_≡_};
+ghost use mathlib.Core.Bool.{true};
+ghost use Prim.Native.Nat.{_+_, _*_, _≤_, _<_};
+ghost use lib.ListN.{length};
+ghost use Rattle.record.specs.Layout.{fixedWidth};
+ghost use Rattle.entry.specs.Stored.{lineWidth, slipWidth, mostCopies, mostArrived, lineAt, slipLineAt};
+ghost use Rattle.book.specs.Lent.{lent, sound};
+ghost use Rattle.book.specs.Booking.{copiesIn, slipJudged, arrivalJudged, fitJudged};
+use crate::keys::goods_key;
+use crate::keys::order_key;
+use crate::keys::report_key;
+use crate::keys::slip_key;
+use book::answer::Refused;
+use book::answer::Verdict;
+use book::seek::Found;
+use book::seek::find_line;
+use book::seek::find_slip;
+use cells::part;
+use entry::stored::LINE_WIDTH;
+use entry::stored::MOST_ARRIVED;
+use entry::stored::SLIP_WIDTH;
+use entry::stored::key_is;
+use entry::stored::read_line;
+use entry::stored::slip_copies;
+use entry::stored::slip_line;
+use record::layout::Kind;
+use record::places::ARTICLE;
+use record::places::ORDER_ARTICLE;
+use record::places::ORDER_MEASURE;
+use record::places::ORDER_QUANTITY;
+use record::places::ORDER_REFERENCE;
+use record::places::POSITION;
+use record::places::PRICE;
+use record::places::QUANTITY;
+use record::places::REFERENCE;
+use record::places::REPORT_ARTICLE;
+use record::places::REPORT_REFERENCE;
+use record::places::SLIP;
+use rules::amount::Copies;
+use rules::amount::copies_of;
+use rules::class::Class;
+use rules::class::all_of;
+
+// 11, 12, 14, 15.
+pub fn judge_order(s: &[u8], lines: &[u8], slips: &[u8], used: &[usize; 2]) -> Verdict
+    requires { ⌜ (sound (lent (now lines) (now slips) (now used)) ≡ true) × (fixedWidth Kind.Order ≤ length (now s)) ⌝ }
+    ensures { λ r. ⌜ r ≡ fitJudged Kind.Order (now (s .entry)) (lent (now (lines .entry)) (now (slips .entry)) (now (used .entry))) ⌝ }
+{
+    if copies_of(part(s, ORDER_QUANTITY, ORDER_MEASURE)).0 == 0 {
+        return Verdict::Refuse(Refused::NoCopies);
+    }
+    if all_of(Class::Blank, part(s, ORDER_REFERENCE, ORDER_ARTICLE)) {
+        return Verdict::Refuse(Refused::NoReference);
+    }
+    let count = used[0];
+    let key = order_key(s);
+    match find_line(lines, count, &key) {
+        Found::At(_) => Verdict::Refuse(Refused::LineExists),
+        Found::Nothing => {
+            if count < lines.len() / LINE_WIDTH {
+                Verdict::Fits(count)
+            } else {
+                Verdict::Refuse(Refused::LinesUsed)
+            }
+        }
+    }
+}
+
+// 17 or 18, where the slip key is booked at j.
+fn judge_slip(
+    key: &[u8],
+    copies: Copies,
+    lines: &[u8],
+    slips: &[u8],
+    used: &[usize; 2],
+    j: usize,
+) -> Verdict
+    requires { ⌜ (slipWidth * j + slipWidth ≤ length (now slips)) × (lineWidth * slipLineAt (now slips) j + lineWidth ≤ length (now lines)) ⌝ }
+    ensures { λ r. ⌜ r ≡ slipJudged (lent (now (lines .entry)) (now (slips .entry)) (now (used .entry))) (now (key .entry)) copies j ⌝ }
+{
+    if key_is(lines, slip_line(slips, j), key) & (slip_copies(slips, j).0 == copies.0) {
+        return Verdict::Refuse(Refused::SlipBooked);
+    }
+    Verdict::Refuse(Refused::SlipDiffers)
+}
+
+// 21, 19, where the line stands at i.
+fn judge_arrival(copies: Copies, lines: &[u8], slips: &[u8], used: &[usize; 2], i: usize) -> Verdict
+    requires { ⌜ (copies .0 ≤ mostCopies) × (lineWidth * i + lineWidth ≤ length (now lines)) × (lineAt (now lines) i .arrived .0 ≤ mostArrived) ⌝ }
+    ensures { λ r. ⌜ r ≡ arrivalJudged (lent (now (lines .entry)) (now (slips .entry)) (now (used .entry))) copies i ⌝ }
+{
+    let l = read_line(lines, i);
+    if MOST_ARRIVED < l.arrived.0 + copies.0 {
+        return Verdict::Refuse(Refused::TooManyArrived);
+    }
+    if used[1] < slips.len() / SLIP_WIDTH {
+        return Verdict::Fits(i);
+    }
+    Verdict::Refuse(Refused::SlipsUsed)
+}
+
+// 13, 11, 12, 17 or 18, 16, 21, 19.
+pub fn judge_goods(s: &[u8], lines: &[u8], slips: &[u8], used: &[usize; 2]) -> Verdict
+    requires { ⌜ (sound (lent (now lines) (now slips) (now used)) ≡ true) × (fixedWidth Kind.Goods ≤ length (now s)) × (copiesIn Kind.Goods (now s) .0 ≤ mostCopies) ⌝ }
+    ensures { λ r. ⌜ r ≡ fitJudged Kind.Goods (now (s .entry)) (lent (now (lines .entry)) (now (slips .entry)) (now (used .entry))) ⌝ }
+{
+    if all_of(Class::Blank, part(s, SLIP, POSITION)) {
+        return Verdict::Refuse(Refused::NothingToBook);
+    }
+    let copies = copies_of(part(s, QUANTITY, PRICE));
+    if copies.0 == 0 {
+        return Verdict::Refuse(Refused::NoCopies);
+    }
+    if all_of(Class::Blank, part(s, REFERENCE, ARTICLE)) {
+        return Verdict::Refuse(Refused::NoReference);
+    }
+    let key = goods_key(s);
+    match find_slip(slips, used[1], slip_key(s)) {
+        Found::At(j) => judge_slip(&key, copies, lines, slips, used, j),
+        Found::Nothing => match find_line(lines, used[0], &key) {
+            Found::Nothing => Verdict::Refuse(Refused::NoLine),
+            Found::At(i) => judge_arrival(copies, lines, slips, used, i),
+        },
+    }
+}
+
+// 12, 16.
+pub fn judge_report(s: &[u8], lines: &[u8], slips: &[u8], used: &[usize; 2]) -> Verdict
+    requires { ⌜ (sound (lent (now lines) (now slips) (now used)) ≡ true) × (fixedWidth Kind.Report ≤ length (now s)) ⌝ }
+    ensures { λ r. ⌜ r ≡ fitJudged Kind.Report (now (s .entry)) (lent (now (lines .entry)) (now (slips .entry)) (now (used .entry))) ⌝ }
+{
+    if all_of(Class::Blank, part(s, REPORT_REFERENCE, REPORT_ARTICLE)) {
+        return Verdict::Refuse(Refused::NoReference);
+    }
+    let key = report_key(s);
+    match find_line(lines, used[0], &key) {
+        Found::Nothing => Verdict::Refuse(Refused::NoLine),
+        Found::At(i) => Verdict::Fits(i),
+    }
+}
