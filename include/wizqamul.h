@@ -312,8 +312,8 @@ wq_saved wq_save(const uint8_t *lines, size_t lines_length, const uint8_t *slips
  * Each key is compared with those before it, and the slips of each line are looked for
  * among all slips, so the time grows as lines squared plus slips squared: about a
  * millisecond for a full book (docs/PERFORMANCE.md). A save of more lines or slips than any
- * room, up to 65,535 of each, is judged whole too, for seconds, before it is answered 23:
- * what is longer than WQ_SAVE_LENGTH(WQ_MOST_LINES, WQ_MOST_SLIPS) need not be tried.
+ * room has, up to 65,535 of each, is judged whole too before it is answered 23: what is
+ * longer than WQ_SAVE_LENGTH(WQ_MOST_LINES, WQ_MOST_SLIPS) need not be tried.
  * Refusals: 20 for room sizes alone; 22 for bytes that are not exactly one valid save, keys
  * that repeat, or a line with more than 9,999,999 arrived; 23 where the save is valid but
  * has more lines or slips than the rooms. */
