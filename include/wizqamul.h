@@ -13,6 +13,10 @@
  *     overlap: a key for wq_line may be read straight out of a line entry.
  * Any bytes and any numbers may be handed over; those that are wrong are refused.
  *
+ * libwizqamul.a is x86-64 code (ELF, with the System V calling convention, as on Linux). It
+ * needs one symbol from outside, memcpy, which every C library has. docs/RULES.md says in
+ * full what is said in short here.
+ *
  * Each call returns a struct by value. `answer` is 0 for done, else it tells the reason.
  * A refusal gives its answer and its place, 0 in all other members, and changes nothing
  * that was lent. On success the place is 0. An answer is the first refusal that holds, in
@@ -53,19 +57,81 @@ extern "C" {
 #endif
 
 /* ---- Records --------------------------------------------------------------------------
- * A record is a fixed part, then optional fields, then `*9999`; the CR LF that ends it in
- * a file is not part of it. Allowed bytes are 32 to 126 and 160 to 255; blank is byte 32.
- * An optional field is a star, four digits of ID, and a content without a star.
- * Fixed parts, fields in order with their lengths:
- *   B101: kind 4, sender 10, qualifier 2, recipient 10, qualifier 2, date 8, reference 10,
- *         article 13, qualifier 2, quantity 4, qualifier 2.
- *   L101: kind 4, sender 10, qualifier 2, recipient 10, qualifier 2, date 8, slip number 10,
- *         position 4, reference 10, article 13, qualifier 2, quantity 4, price 15,
- *         price qualifier 2, currency 3, discount 8, tax mark 1.
- *   M101: kind 4, sender 10, qualifier 2, recipient 10, qualifier 2, slip number 10,
- *         reference 10, article 13, qualifier 2, message 3, hold mark 1, expected date 8,
- *         partial quantity 4.
- * The school is the sender of a B101 and the recipient of an L101 or M101. */
+ * A record is a fixed part, then up to 64 optional fields, then `*9999`; at most 1,024 bytes.
+ * The CR LF that ends it in a file is not part of it. Allowed bytes are 32 to 126 and 160 to
+ * 255; a blank is byte 32, a capital A to Z. In full: docs/RULES.md, sections 1 and 2.
+ *
+ * Fixed parts: index, place and length of each field, and what it holds. "Digits" and the
+ * like fill the whole field.
+ *
+ *       0    0   4  kind              B101, L101 or M101
+ *       1    4  10  sender            address: one or more digits or capitals, then blanks
+ *       2   14   2  qualifier         VD, IB or SA
+ *       3   16  10  recipient         address
+ *       4   26   2  qualifier         VD, IB or SA
+ *   B101, an order:
+ *       5   28   8  date              day: YYYYMMDD, a real one of the years 0001 to 9999
+ *       6   36  10  reference         name, with none of * + : ? ' in it
+ *       7   46  13  article           by the qualifier after it, see below
+ *       8   59   2  qualifier         EN, IB, KN, UM or RK
+ *       9   61   4  quantity          digits
+ *      10   65   2  qualifier         ST or NP
+ *   L101, a delivery:                 goods record              closing record
+ *       5   28   8  date              day                       zeros
+ *       6   36  10  slip number       name                      blanks
+ *       7   46   4  position          digits                    blanks
+ *       8   50  10  reference         name                      blanks
+ *       9   60  13  article           by the qualifier          blanks
+ *      10   73   2  qualifier         EN, IB, KN, UM or RK      blanks
+ *      11   75   4  quantity          digits                    zeros
+ *      12   79  15  price             digits                    zeros
+ *      13   94   2  price qualifier   capitals                  blanks
+ *      14   96   3  currency          capitals                  blanks
+ *      15   99   8  discount          digits                    zeros
+ *      16  107   1  tax mark          0, 1, 2 or 6              blank
+ *   M101, a report:
+ *       5   28  10  slip number       name
+ *       6   38  10  reference         name
+ *       7   48  13  article           by the qualifier
+ *       8   61   2  qualifier         EN, IB, KN, UM or RK
+ *       9   63   3  message           digits
+ *      10   66   1  hold mark         J or N
+ *      11   67   8  expected date     day, zeros or blanks
+ *      12   75   4  partial quantity  zeros
+ *
+ * A name is all blank, or its first byte is not blank. An L101 dated eight zeros is a closing
+ * record, any other a goods record, and one with a blank slip number an advance notice. A
+ * price is in ten-thousandths of the currency, a discount in ten-thousandths of a percent.
+ * The school is the sender of a B101 and the recipient of an L101 or M101.
+ *
+ * Articles, by qualifier:
+ *   EN  13 digits; times 1, 3, 1, 3, .. 1 they add up to a multiple of 10
+ *   IB  nine digits, then a digit or X, which counts ten; times 10, 9, .. 1 they add up to a
+ *       multiple of 11; then three blanks
+ *   KN  7 or 8 digits, then blanks
+ *   UM  1 to 13 digits, then blanks
+ *   RK  three digits, five blanks, five digits
+ *
+ * An optional field is a star, four digits of ID, and a content without a star. Contents:
+ *   1001 1003 1101  1 to 35 bytes     1115  1 to 10 bytes
+ *   1009            3 bytes           1129  1 to 6 digits
+ *   1017            1 to 39 bytes     1131  1 to 3 bytes
+ *   1019            0, 1 or 2         1151  PHY or DIG
+ *   1021 1045       J or N            1201  a day, as above
+ *   1025            5 to 8 digits     1203  1 to 3 digits, 1 to 360
+ *   1029            5 to 15 digits    9001  1 byte
+ *   1032            3 capitals        9003  J or U
+ *   1047            J                 9010  1 to 40 bytes
+ *   1051 1113       1 to 5 bytes      9011  1 to 14 digits
+ *   1107 9007 9016  1 to 4 digits     9012  13 digits
+ *   1005 1007 1013 1018 1030 1102 1108 1114 1116 1202 1204    2 capitals
+ * Any other ID below 9999 may have any content, also an empty one. In a B101 1001, 1003, 1051
+ * and 9010 hold none of * + : ? ' either. IDs may repeat.
+ *
+ * Groups: where one of these IDs stands, the IDs before and after it in its group are those
+ * of the fields just before and just after it.
+ *   1017 1018    1029 1030 1032    1101 1102    1107 1108
+ *   1113 1114    1115 1116         1201 1202    1203 1204 */
 #define WQ_KIND_ORDER "B101"
 #define WQ_KIND_DELIVERY "L101"
 #define WQ_KIND_REPORT "M101"
@@ -243,6 +309,11 @@ wq_saved wq_save(const uint8_t *lines, size_t lines_length, const uint8_t *slips
 /* Loads a save: replaces used[0] and used[1] and fills the entries they count; each line's
  * arrived is the sum of its slips. Entries past them and the saved bytes never change. What
  * the book held before is not judged and is lost.
+ * Each key is compared with those before it, and the slips of each line are looked for
+ * among all slips, so the time grows as lines squared plus slips squared: about a
+ * millisecond for a full book (docs/PERFORMANCE.md). A save of more lines or slips than any
+ * room has, up to 65,535 of each, is judged whole too before it is answered 23: what is
+ * longer than WQ_SAVE_LENGTH(WQ_MOST_LINES, WQ_MOST_SLIPS) need not be tried.
  * Refusals: 20 for room sizes alone; 22 for bytes that are not exactly one valid save, keys
  * that repeat, or a line with more than 9,999,999 arrived; 23 where the save is valid but
  * has more lines or slips than the rooms. */
