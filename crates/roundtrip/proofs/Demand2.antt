@@ -2,8 +2,9 @@
 use mathlib.Core.Path.{_≡_, _∙_, ap, sym, refl, subst}
 use mathlib.Core.Bool.{Bool, true, false}
 use mathlib.Core.List.{List, _++_}
-use Prim.Native.Nat.{ℕ, _+_, _≤_}
-use lib.ListN.{length, take, drop, take-append-drop}
+use Prim.Native.Nat.{ℕ, _+_, _*_, _≤_}
+use native.Mathlib.Omega.{arith}
+use lib.ListN.{length, take, drop, replicate, take-append-drop}
 use lib.Seq.{slice}
 use Rattle.cells.specs.Bytes.{pick, bytes, all, same, joined}
 use Rattle.cells.proofs.Lists.{same-refl, all-take}
@@ -11,10 +12,11 @@ use Rattle.rules.specs.Class.{belongs, ofClass}
 use Rattle.rules.specs.Day.{dayWidth}
 use Rattle.rules.specs.declared.class.Class.the-variants.{Allowed, Zero}
 use Rattle.rules.proofs.Runs.{run-all}
-use Rattle.record.specs.Layout.{dateStart, layout, total, fixedWidth, kindOf}
+use Rattle.record.specs.Layout.{mostFields, dateStart, layout, total, fixedWidth, kindOf}
 use Rattle.record.specs.Answers.{checkedOf}
 use Rattle.record.specs.Values.{orderOf, deliveryOf, reportOf}
-use Rattle.record.specs.Read.{judged, judgedAs, orderFrom, deliveryFrom, reportFrom, readOrder, readDelivery, readReport}
+use Rattle.record.specs.Fields.{Optional}
+use Rattle.record.specs.Read.{judged, entryWidth, check, judgedAs, orderFrom, deliveryFrom, reportFrom, readOrder, readDelivery, readReport}
 use Rattle.record.specs.declared.answer.Verdict.{Verdict}
 use Rattle.record.specs.declared.answer.Verdict.the-variants.{Refused, Fits}
 use Rattle.record.specs.declared.answer.Checked.{Checked}
@@ -29,9 +31,9 @@ use Rattle.reader.proofs.Stages.{as-named}
 use Rattle.reader.proofs.Fitting.{fitting, name-of, fits-known, fits-long}
 use Rattle.writing.specs.Write.{entries, optionalOf}
 use Rattle.writing.specs.Typed.{orderFields, deliveryFields, reportFields, orderBytes, deliveryBytes, reportBytes}
-use Rattle.roundtrip.specs.Demand2.{readCall, writeCall, ReadsBack, WritesBack, Demand2, OrderShaped, DeliveryShaped, ReportShaped, OrderReadsBack, DeliveryReadsBack, ReportReadsBack}
+use Rattle.roundtrip.specs.Demand2.{readCall, writeCall, Tabled, ReadsBack, WritesBack, Demand2, OrderShaped, DeliveryShaped, ReportShaped, OrderReadsBack, DeliveryReadsBack, ReportReadsBack}
 use Rattle.roundtrip.proofs.Typed.{order-values, delivery-values, report-values, order-bytes-of, delivery-bytes-of, report-bytes-of}
-use Rattle.roundtrip.proofs.ReadExactly.{verdict-fits, tabled-fits, reads-parts, read-exactly}
+use Rattle.roundtrip.proofs.ReadExactly.{verdict-fits, reads-parts, read-exactly}
 use Rattle.roundtrip.proofs.WriteExactly.{write-exactly}
 use Rattle.roundtrip.proofs.ReadAfterWrite.{read-after-write}
 use Rattle.roundtrip.proofs.WriteAfterRead.{write-after-read}
@@ -45,6 +47,20 @@ demand2 = record {
   read-after-write = read-after-write;
   write-after-read = write-after-read;
 }
+
+-- a verdict that is answered as one that fits is that one
+checked-same : (v : Verdict) (n : ℕ) → checkedOf v ≡ checkedOf (Fits n) → v ≡ Fits n
+unfolding checkedOf
+checked-same v n e =
+    let d = verdict-fits v (ap (λ (c : Checked). c .answer) e) in
+    d .1 ∙ ap (λ (c : Checked). Fits (c .fields)) (ap checkedOf (sym (d .1)) ∙ e)
+
+-- so a text in which a check with any large table finds some fields fits with as many
+tabled-fits : (s : List ℕ) (fields : List Optional) → Tabled s fields → judged s ≡ Fits (length fields)
+unfolding check
+tabled-fits s fields t =
+    let lent : List ℕ = replicate (mostFields * entryWidth) 0 in
+    checked-same (judged s) (length fields) (t .reads lent (omega arith))
 
 -- a text that fits and begins with a kind's name is read as that kind
 named : (name text : List ℕ) (n : ℕ) → judged text ≡ Fits n → slice 0 4 text ≡ name → judgedAs name text ≡ Fits n

@@ -1,5 +1,4 @@
 pub mod BytesBack
-pub mod Computed
 pub mod Demand2
 pub mod DigitsBack
 pub mod EntriesBack
@@ -21,3 +20,4 @@ pub mod ValuesBack
 pub mod Whole
 pub mod WriteAfterRead
 pub mod WriteExactly
+pub mod Computed

@@ -6,7 +6,7 @@ use native.Mathlib.Nat.{zero-add}
 use native.Mathlib.Omega.{arith}
 use borrow.Author.Tests.{ltb-true, ltb-false, le-ltb}
 use lib.Dec.{ltb}
-use lib.ListN.{length, take, drop, replicate, length-append, take-append-drop}
+use lib.ListN.{length, take, drop, length-append, take-append-drop}
 use lib.Seq.{length-take-le, drop-at, take-append-seam}
 use Rattle.cells.proofs.Bools.{split}
 use Rattle.rules.specs.Class.{belongs}
@@ -21,7 +21,6 @@ use Rattle.record.specs.declared.answer.Refusal.{Refusal}
 use Rattle.record.specs.declared.answer.Refusal.the-variants.{TooLong, UnknownKind, TooShort, Byte, FixedField, NoField, LastField, TooManyFields, Content, Group, SmallTable}
 use Rattle.record.specs.declared.answer.Verdict.{Verdict}
 use Rattle.record.specs.declared.answer.Verdict.the-variants.{Refused, Fits}
-use Rattle.record.specs.declared.answer.Checked.{Checked}
 use Rattle.record.specs.declared.layout.Kind.{Kind}
 use Rattle.record.specs.declared.layout.Kinded.{Kinded}
 use Rattle.record.specs.declared.layout.Kinded.the-variants.{Known}
@@ -79,19 +78,6 @@ module _ (s lent : List ℕ) (h : LargeTable lent) (n : ℕ) (e : judged s ≡ F
   pub fits-table : optionalOf s (entries n (check s lent .table)) ≡ optionalFields n s
   unfolding optionalFields
   fits-table = rw (check-fits s lent h n e) (fields-back s n (optionalStart (kindOf s)) (drop (n * entryWidth) lent))
-
--- a verdict that is answered as one that fits is that one
-checked-same : (v : Verdict) (n : ℕ) → checkedOf v ≡ checkedOf (Fits n) → v ≡ Fits n
-unfolding checkedOf
-checked-same (Refused r) n e = absurd (refused-not r (ap (λ (c : Checked). c .answer) e))
-checked-same (Fits m) n e = ap (λ (c : Checked). Fits (c .fields)) e
-
--- so a text that a check with any large table finds to have some fields fits with as many
-pub tabled-fits : (s : List ℕ) (fields : List Optional) → Tabled s fields → judged s ≡ Fits (length fields)
-unfolding check
-tabled-fits s fields t =
-    let lent : List ℕ = replicate (mostFields * entryWidth) 0 in
-    checked-same (judged s) (length fields) (t .reads lent (omega arith))
 
 -- a fixed part and optional fields that make a record, read
 module _ (k : Kind) (fixed : List ℕ) (fs : List Optional) (w : Whole k fixed fs) where

@@ -3,6 +3,7 @@ use mathlib.Core.Path.{_≡_, _∙_, ap, sym, refl, subst}
 use mathlib.Core.Bool.{true}
 use mathlib.Core.List.{List}
 use Prim.Native.Nat.{ℕ, _≤_}
+use native.Mathlib.Omega.{arith}
 use lib.ListN.{length}
 use Rattle.cells.specs.Bytes.{all}
 use Rattle.rules.specs.Class.{belongs}
@@ -35,8 +36,8 @@ parts-whole r m = record {
   wide = kept-length (layout (r .kind)) (r .fixed) (m .fixed-kept);
   unbroken = kept-whole (layout (r .kind)) (r .fixed) (m .fixed-kept);
   kept = m .optional-kept;
-  few = m .few;
-  short = m .short;
+  few = omega arith;
+  short = omega arith;
   allowed = m .allowed;
 }
 

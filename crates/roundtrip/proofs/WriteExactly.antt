@@ -24,7 +24,7 @@ use Rattle.writing.specs.declared.answer.Verdict.the-variants.{Refused, Fits}
 use Rattle.writing.proofs.Stages.{fixed-fits, fields-fit, fixed-passed, write-fits}
 use Rattle.writing.proofs.Fitting.{Fitting, fitting, fits-inside}
 use Rattle.roundtrip.specs.Record.{CanWrite}
-use Rattle.roundtrip.specs.Demand2.{WriteExactly}
+use Rattle.roundtrip.specs.Demand2.{writeCall, WriteExactly}
 use Rattle.roundtrip.proofs.Texts.{contentsAllowed, text-allowed}
 use Rattle.roundtrip.proofs.Fixed.{faultless-kept, faultless-allowed, faultless}
 use Rattle.roundtrip.proofs.EntriesKept.{entries-length, fields-length, accepted-kept, accepted-allowed, kept-accepted}
@@ -59,35 +59,6 @@ module _ (fixed table : List ℕ) (count : ℕ) (contents out : List ℕ) where
   pub as-many : length fields ≡ count
   as-many = fields-length contents (entries count table) ∙ entries-length count table
 
-  -- what writing accepts makes a record
-  accepted-whole : (k : Kind) (n : ℕ) → Fitting k fixed table count contents out n → Whole k fixed fields
-  unfolding recordText
-  accepted-whole k n a =
-      let f = run-all (belongs Allowed) fixed (faultless-allowed k fixed (a .wide) (a .sound)) in
-      record {
-        named = a .named;
-        wide = a .wide;
-        unbroken = faultless-kept k fixed (a .sound);
-        kept = accepted-kept k contents noMember 0 (entries count table) (a .kept .0) (a .kept .1);
-        few = omega (arith, as-many, a .few);
-        short = omega (arith, a .long, a .short);
-        allowed = rw (all-append (belongs Allowed) fixed (optionalText fields), f, text-allowed fields) (accepted-allowed k contents noMember 0 (entries count table) (a .kept .0) (a .kept .1));
-      }
-
-  -- and can be written
-  done-can : write fixed table count contents out .said .answer ≡ 0 → CanWrite fixed table count contents out
-  unfolding write
-  done-can e =
-      let d = done-fits (writeJudged fixed table count contents out) e in
-      let f = fitting fixed table count contents out (d .0) (d .1) in
-      let l = f .1 .long in
-      record {
-        listed = f .1 .listed;
-        lent = fits-inside fixed table count contents out (d .0) (d .1);
-        makes = whole-made fixed fields (f .0) (accepted-whole (f .0) (d .0) (f .1));
-        room = omega (arith, f .1 .room);
-      }
-
   -- what makes a record is accepted, given the table, the contents and the output
   module _ (k : Kind) (w : Whole k fixed fields) (c : CanWrite fixed table count contents out) where
     -- each byte of the fixed part and of the contents is allowed
@@ -114,13 +85,42 @@ module _ (fixed table : List ℕ) (count : ℕ) (contents out : List ℕ) where
         fixed-passed fixed table count contents out 0 fixed-done
         ∙ rw (w .named) (fields-fit k fixed table count contents out few (c .listed) 0 fields-done ∙ length-done)
 
-  -- and written
+  -- and it is written
   can-done : CanWrite fixed table count contents out
-      → write fixed table count contents out ≡ outcome (record { answer = 0; place = 0; length = length text }) (text ++ drop (length text) out)
+      → writeCall fixed table count contents out ≡ outcome (record { answer = 0; place = 0; length = length text }) (text ++ drop (length text) out)
   unfolding writtenOf
   can-done c =
       write-fits fixed table count contents out (length text)
       (whole-done (c .makes .parts .kind) (made-whole fixed fields (c .makes)) c)
+
+  -- what writing accepts makes a record
+  accepted-whole : (k : Kind) (n : ℕ) → Fitting k fixed table count contents out n → Whole k fixed fields
+  unfolding recordText
+  accepted-whole k n a =
+      let f = run-all (belongs Allowed) fixed (faultless-allowed k fixed (a .wide) (a .sound)) in
+      record {
+        named = a .named;
+        wide = a .wide;
+        unbroken = faultless-kept k fixed (a .sound);
+        kept = accepted-kept k contents noMember 0 (entries count table) (a .kept .0) (a .kept .1);
+        few = omega (arith, as-many, a .few);
+        short = omega (arith, a .long, a .short);
+        allowed = rw (all-append (belongs Allowed) fixed (optionalText fields), f, text-allowed fields) (accepted-allowed k contents noMember 0 (entries count table) (a .kept .0) (a .kept .1));
+      }
+
+  -- so where writing answers 0, what it needs was there
+  done-can : writeCall fixed table count contents out .said .answer ≡ 0 → CanWrite fixed table count contents out
+  unfolding write
+  done-can e =
+      let d = done-fits (writeJudged fixed table count contents out) e in
+      let f = fitting fixed table count contents out (d .0) (d .1) in
+      let l = f .1 .long in
+      record {
+        listed = f .1 .listed;
+        lent = fits-inside fixed table count contents out (d .0) (d .1);
+        makes = whole-made fixed fields (f .0) (accepted-whole (f .0) (d .0) (f .1));
+        room = omega (arith, f .1 .room);
+      }
 
   -- writing answers 0 where its parts make a record and the output has room for it, and nowhere else
   pub write-exactly : WriteExactly fixed table count contents out

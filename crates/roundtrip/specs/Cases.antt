@@ -1,7 +1,7 @@
 -- Parts for the computed cases: those of document 01's samples, which make records, and others with one thing broken, which make none.
 use Prim.Native.Nat.{ℕ}
 use Prim.Native.String.{String}
-use mathlib.Core.List.{List, [], _∷_, _++_}
+use mathlib.Core.List.{List, [], _∷_}
 use lib.ListN.{replicate}
 use Rattle.cells.specs.Bytes.{bytes}
 use Rattle.record.specs.Fields.{Optional}
@@ -30,6 +30,10 @@ orderFields reference article =
 
 abbrev pub xFields : List (List ℕ)
 xFields = orderFields (bytes "A-17      ") "9783442756841"
+
+-- an order of these fields alone
+abbrev pub fixedOnly : List (List ℕ) → Parts
+fixedOnly fields = record { kind = Order; fixed = fields; optional = [] }
 
 -- X with optional fields
 abbrev pub ordering : List Optional → Parts
@@ -118,7 +122,3 @@ shortFields n = replicate n (field 9007 "123")
 -- a field of an ID that is not listed, with so many letters
 abbrev pub letters : ℕ → List Optional
 letters n = record { id = 8888; content = replicate n 65 } ∷ []
-
--- X with a byte in its reference
-abbrev pub withByte : ℕ → Parts
-withByte b = record { kind = Order; fixed = orderFields (bytes "A-17" ++ (b ∷ bytes "     ")) "9783442756841"; optional = [] }
