@@ -1,94 +1,186 @@
--- Demand 3 on the bytes: records given one after the other to the booking call, from a book with no used entries.
-use mathlib.Core.Path.{_≡_, _∙_, ap, subst, sym, refl}
-use mathlib.Core.Bool.{false, false≢true}
+-- Demand 3 in the calls' own words, for any rooms and any byte strings; and the school alone.
+use mathlib.Core.Path.{_≡_, _∙_, ap, sym, refl}
+use mathlib.Core.Bool.{Bool, true, false}
 use mathlib.Core.Logic.{_⊎_, inl, inr}
-use mathlib.Core.List.{List, [], _∷_, _++_, map, map-append, append-assoc}
-use Prim.Native.Nat.{ℕ}
-use borrow.Author.Tests.{eq-eqb, ne-eqb}
+use mathlib.Core.List.{List, [], _∷_, _++_, map, map-append, append-assoc, append-nil}
+use Prim.Native.Nat.{ℕ, _+_}
+use native.Mathlib.Omega.{arith}
+use lib.ListN.{length}
+use Rattle.cells.specs.Bytes.{pick, same}
 use Rattle.cells.proofs.Bools.{split}
+use Rattle.ledger.specs.Lists.{keep, total, given}
 use Rattle.ledger.specs.Book.{Rooms}
-use Rattle.ledger.specs.Booking.{Fit, done, judge}
-use Rattle.ledger.specs.History.{empty, bookings}
-use Rattle.ledger.specs.Demand3.{Promise3}
-use Rattle.ledger.proofs.Gives.{Gives, gives-more}
-use Rattle.ledger.proofs.Demand3.{promise3}
-use Rattle.book.specs.Lent.{usedLines, usedSlips, sound}
-use Rattle.book.specs.Booking.{book}
-use Rattle.balance.specs.Told.{listed, told, roomsOf, fitOf}
-use Rattle.balance.specs.Demand3.{Given, fresh, give, giveAll}
-use Rattle.balance.specs.Joined.{stateTold, ToldDemand3}
+use Rattle.ledger.specs.Booking.{done, judge}
+use Rattle.ledger.specs.History.{State, settle, booking, bookings}
+use Rattle.ledger.proofs.Lists.{Each}
+use Rattle.ledger.proofs.Members.{keep-within}
+use Rattle.ledger.proofs.Histories.{alone}
+use Rattle.ledger.proofs.Gives.{Gives, first-accepted}
+use Rattle.ledger.proofs.Slips.{slip-once}
+use Rattle.book.specs.Lent.{usedLines, usedSlips, lineRoom, slipRoom, allFrom, sound, roomsSound}
+use Rattle.book.specs.Booking.{refusedAs, book}
+use Rattle.book.specs.Asked.{lineAsked}
+use Rattle.book.specs.declared.answer.Refused.the-variants.{Unsound}
+use Rattle.balance.specs.Told.{told, roomsOf, fitOf}
+use Rattle.balance.specs.Demand3.{keyFieldsIn, sameFields, ofSchool, recordsOf, recordsWith, lineFrom, Given, fresh, give, giveAll, Accounts, Demand3}
+use Rattle.balance.specs.Joined.{stateTold, numberOf}
 use Rattle.balance.proofs.Soundness.{Kept}
 use Rattle.balance.proofs.Accepted.{Refuses, Accepts, refused-or-accepted}
+use Rattle.balance.proofs.Bookable.{Bookable}
+use Rattle.balance.proofs.Given.{Booked, all-given, unsound-given, fresh-told, give-accepted}
+use Rattle.balance.proofs.Exactly.{accepted-exactly}
+use Rattle.balance.proofs.Figures.{asked-tells}
 use Rattle.balance.proofs.Followed.{follows}
+use Rattle.balance.proofs.Lines.{answers}
+use Rattle.balance.proofs.Numbers.{numbers-agree}
+use Rattle.balance.proofs.Accounts.{all-bookable, equal-fields, own-bookable, orders-summed, deliveries-summed, once, alone-booked}
 
--- what the bytes tell is what these earlier records, and then the accepted records, alone come to in a book of these rooms
-pub record Booked (rooms : Rooms) (earlier : List Fit) (g : Given) : Type 0 where
-  pub kept : Kept (g .book)
-  pub lent : roomsOf (g .book) ≡ rooms
-  pub tells : Gives rooms (earlier ++ map fitOf (g .accepted)) (told (g .book))
+-- the given state after a record that was accepted
+abbrev after : Given → List ℕ → Given
+after g s = record { book = book s (g .book) .lent; accepted = g .accepted ++ (s ∷ []) }
 
--- a record that is refused changes nothing
-pub give-refused : (g : Given) (s : List ℕ) → Refuses (book s (g .book)) (g .book) → give g s ≡ g
-unfolding give
-give-refused g s r = rw (ne-eqb (book s (g .book) .said .answer) 0 (r .answer), r .lent)
+-- what it tells is the told state after that record
+after-told : (rooms : Rooms) (g : Given) (s : List ℕ) → Kept (g .book) → Accepts s (g .book) → judge rooms (told (g .book)) (fitOf s) ≡ done
+    → booking rooms (stateTold g) (fitOf s) ≡ stateTold (after g s)
+unfolding booking settle
+after-told rooms g s kept a e =
+    rw e (λ i. record { book = sym (follows s (g .book) kept a .tells) i; accepted = sym (map-append fitOf (g .accepted) (s ∷ [])) i })
 
--- a record that answers 0 is one more accepted
-pub give-accepted : (g : Given) (s : List ℕ) → Accepts s (g .book) → give g s ≡ record { book = book s (g .book) .lent; accepted = g .accepted ++ (s ∷ []) }
-unfolding give
-give-accepted g s a = rw (eq-eqb (book s (g .book) .said .answer) 0 (a .answer))
+-- records that the told book accepts one after the other answer 0 one after the other
+abbrev AllAccepted : Rooms → List (List ℕ) → Given → Type 0
+AllAccepted rooms ss g = bookings rooms (stateTold g) (map fitOf ss) .accepted ≡ map fitOf (g .accepted) ++ map fitOf ss
 
-module _ (rooms : Rooms) (earlier : List Fit) where
-  -- the told book books it too
-  one-accepted : (g : Given) (s : List ℕ) → Booked rooms earlier g → Accepts s (g .book)
-      → Booked rooms earlier (record { book = book s (g .book) .lent; accepted = g .accepted ++ (s ∷ []) })
-  one-accepted g s h a =
-      let f = follows s (g .book) (h .kept) a in
-      let rs : List Fit = map fitOf (g .accepted) in
-      let allowed : judge rooms (told (g .book)) (fitOf s) ≡ done = rw (h .lent) at (f .allowed) in
-      record {
-        kept = f .kept;
-        lent = f .rooms ∙ h .lent;
-        tells =
-            gives-more rooms (earlier ++ rs) (earlier ++ map fitOf (g .accepted ++ (s ∷ []))) (told (g .book)) (told (book s (g .book) .lent)) (fitOf s) (h .tells) allowed
-            (rw (map-append fitOf (g .accepted) (s ∷ [])) (append-assoc earlier rs (fitOf s ∷ []))) (sym (f .tells));
-      }
+rest-accepted : (rooms : Rooms) (s : List ℕ) (ss : List (List ℕ)) (g : Given) → Kept (g .book) → Accepts s (g .book) → AllAccepted rooms (s ∷ ss) g
+    → AllAccepted rooms ss (after g s)
+unfolding bookings
+rest-accepted rooms s ss g kept a e =
+    let passes = first-accepted rooms (fitOf s) (map fitOf ss) (stateTold g) e in
+    rw (← after-told rooms g s kept a passes, map-append fitOf (g .accepted) (s ∷ []), append-assoc (map fitOf (g .accepted)) (fitOf s ∷ []) (map fitOf ss)) e
 
-  -- one record given keeps it so
-  one-given : (g : Given) (s : List ℕ) → Booked rooms earlier g → Booked rooms earlier (give g s)
-  one-given g s h = go (refused-or-accepted s (g .book))
-    where
-      go : Refuses (book s (g .book)) (g .book) ⊎ Accepts s (g .book) → Booked rooms earlier (give g s)
-      go (inl r) = subst (Booked rooms earlier) (sym (give-refused g s r)) h
-      go (inr a) = subst (Booked rooms earlier) (sym (give-accepted g s a)) (one-accepted g s h a)
-
-  -- so do any records
-  pub all-given : (rs : List (List ℕ)) (g : Given) → Booked rooms earlier g → Booked rooms earlier (giveAll g rs)
-  unfolding giveAll
-  all-given [] g h = h
-  all-given (r ∷ rs) g h = all-given rs (give g r) (one-given g r h)
-
--- into an unsound book nothing is booked
-pub unsound-given : (rs : List (List ℕ)) (g : Given) → sound (g .book) ≡ false → giveAll g rs ≡ g
+pub all-answered : (rooms : Rooms) (ss : List (List ℕ)) (g : Given) → Kept (g .book) → roomsOf (g .book) ≡ rooms → Each Bookable ss → AllAccepted rooms ss g
+    → giveAll g ss .accepted ≡ g .accepted ++ ss
 unfolding giveAll
-unsound-given [] g e = refl
-unsound-given (r ∷ rs) g e = ap (λ (h : Given). giveAll h rs) (go (refused-or-accepted r (g .book))) ∙ unsound-given rs g e
+all-answered rooms [] g kept lent h e = sym (append-nil (g .accepted))
+all-answered rooms (s ∷ ss) g kept lent h e = go (refused-or-accepted s (g .book)) (all-answered rooms ss)
   where
-    go : Refuses (book r (g .book)) (g .book) ⊎ Accepts r (g .book) → give g r ≡ g
-    go (inl h) = give-refused g r h
-    go (inr a) = absurd (false≢true (sym e ∙ a .is-sound))
+    answered : book s (g .book) .said .answer ≡ 0
+    answered =
+        let b = h .0 in
+        numbers-agree s (g .book) (b .fields) (b .kind) (kept .is-sound) (b .read) (b .known) (b .something) (b .copies) (b .referenced)
+        ∙ rw (lent, first-accepted rooms (fitOf s) (map fitOf ss) (stateTold g) e) (unfold numberOf in refl)
 
--- a book with no used entries tells what no records come to
-pub fresh-told : (rooms : Rooms) (lines slips : List ℕ) → bookings rooms empty [] ≡ stateTold (fresh lines slips)
-unfolding bookings told usedLines usedSlips listed
-fresh-told rooms lines slips = refl
+    go : Refuses (book s (g .book)) (g .book) ⊎ Accepts s (g .book)
+        → ((n : Given) → Kept (n .book) → roomsOf (n .book) ≡ rooms → Each Bookable ss → AllAccepted rooms ss n → giveAll n ss .accepted ≡ n .accepted ++ ss)
+        → giveAll (give g s) ss .accepted ≡ g .accepted ++ (s ∷ ss)
+    go (inl r) rest = absurd (r .answer answered)
+    go (inr a) rest =
+        let f = follows s (g .book) kept a in
+        rw (give-accepted g s a)
+        (rest (after g s) (f .kept) (f .rooms ∙ lent) (h .1) (rest-accepted rooms s ss g kept a e) ∙ append-assoc (g .accepted) (s ∷ []) ss)
 
--- demand 3 of the told book
-pub told-demand3 : ToldDemand3
-told-demand3 lines slips records =
+-- rooms of the same sizes with nothing used are as sound, and have as much room
+fresh-sound : (lines slips lines′ slips′ : List ℕ) → length lines′ ≡ length lines → length slips′ ≡ length slips
+    → sound (fresh lines′ slips′ .book) ≡ sound (fresh lines slips .book)
+unfolding sound roomsSound usedLines usedSlips lineRoom slipRoom allFrom
+fresh-sound lines slips lines′ slips′ l s = rw (l, s) refl
+
+fresh-rooms : (lines slips lines′ slips′ : List ℕ) → length lines′ ≡ length lines → length slips′ ≡ length slips
+    → roomsOf (fresh lines′ slips′ .book) ≡ roomsOf (fresh lines slips .book)
+unfolding roomsOf lineRoom slipRoom
+fresh-rooms lines slips lines′ slips′ l s = rw (l, s) refl
+
+-- what is known after records were given to sound rooms with nothing used
+pub record Stands (lines slips : List ℕ) (g : Given) : Type 0 where
+  pub kept : Kept (g .book)
+  pub gives : Gives (roomsOf (fresh lines slips .book)) (map fitOf (g .accepted)) (told (g .book))
+  pub fit-to-book : Each Bookable (g .accepted)
+
+stands : (lines slips : List ℕ) (records : List (List ℕ)) → sound (fresh lines slips .book) ≡ true → Stands lines slips (giveAll (fresh lines slips) records)
+stands lines slips records e =
     let g : Given = fresh lines slips in
     let rooms : Rooms = roomsOf (g .book) in
+    let start : Booked rooms [] g = record { kept = record { is-sound = e; counts = refl }; lent = refl; tells = fresh-told rooms lines slips } in
+    let end = all-given rooms [] records g start in
+    record { kept = end .kept; gives = end .tells; fit-to-book = all-bookable records g tt }
+
+-- each key's answer, in rooms of any size
+every-answer : (lines slips : List ℕ) (records : List (List ℕ)) (fields : List (List ℕ))
+    → lineAsked fields (giveAll (fresh lines slips) records .book)
+    ≡ pick (sound (fresh lines slips .book)) (lineFrom (recordsWith fields (giveAll (fresh lines slips) records .accepted))) (refusedAs Unsound)
+every-answer lines slips records fields =
+    let g : Given = fresh lines slips in
     split (sound (g .book))
     (λ e.
-    let start : Booked rooms [] g = record { kept = record { is-sound = e; counts = refl }; lent = refl; tells = fresh-told rooms lines slips } in
-    subst (Promise3 rooms) (all-given rooms [] records g start .tells) (promise3 rooms (map fitOf (giveAll g records .accepted))))
-    (λ e. rw (unsound-given records g e) (subst (Promise3 rooms) (fresh-told rooms lines slips) (promise3 rooms [])))
+    let end = stands lines slips records e in
+    rw e (answers (roomsOf (g .book)) (giveAll g records) (end .kept) (end .gives) (end .fit-to-book) fields))
+    (λ e. rw (unsound-given records g e) (asked-tells fields (g .book) ∙ rw e refl))
+
+-- of records given to rooms
+module _ (lines slips : List ℕ) (records : List (List ℕ)) where
+  abbrev end : Given
+  end = giveAll (fresh lines slips) records
+
+  -- a school's accepted records alone, given to rooms of the same sizes, are all accepted
+  alone-accepted : (school : List (List ℕ)) (lines′ slips′ : List ℕ) → length lines′ ≡ length lines → length slips′ ≡ length slips
+      → giveAll (fresh lines′ slips′) (recordsOf school (end .accepted)) .accepted ≡ recordsOf school (end .accepted)
+  unfolding bookings
+  alone-accepted school lines′ slips′ l s =
+      let g : Given = fresh lines slips in
+      let rooms : Rooms = roomsOf (g .book) in
+      split (sound (g .book))
+      (λ e.
+      let h = stands lines slips records e in
+      let own : List (List ℕ) = recordsOf school (end .accepted) in
+      let kept : Kept (fresh lines′ slips′ .book) = record { is-sound = fresh-sound lines slips lines′ slips′ l s ∙ e; counts = refl } in
+      all-answered rooms own (fresh lines′ slips′) kept (fresh-rooms lines slips lines′ slips′ l s)
+      (own-bookable rooms end (h .kept) (h .gives) (h .fit-to-book) school)
+      (ap (λ (st : State). bookings rooms st (map fitOf own) .accepted) (sym (fresh-told rooms lines′ slips′)) ∙ alone-booked rooms end (h .kept) (h .gives) (h .fit-to-book) school))
+      (λ e. rw (unsound-given records g e) (unfold recordsOf in unfold keep in unfold giveAll in refl))
+
+  -- and for each key of the school the call by key answers the same
+  alone-answers : (school : List (List ℕ)) (lines′ slips′ : List ℕ) → length lines′ ≡ length lines → length slips′ ≡ length slips
+      → (fields : List (List ℕ)) → ofSchool school fields ≡ true
+      → lineAsked fields (giveAll (fresh lines′ slips′) (recordsOf school (end .accepted)) .book) ≡ lineAsked fields (end .book)
+  unfolding recordsWith recordsOf
+  alone-answers school lines′ slips′ l s fields own =
+      let mine : List ℕ → Bool = λ r. sameFields fields (keyFieldsIn r) in
+      let theirs : List ℕ → Bool = λ r. ofSchool school (keyFieldsIn r) in
+      let inside = keep-within mine theirs (λ r e. let d = equal-fields fields (keyFieldsIn r) e in rw (← d) own) (end .accepted) in
+      every-answer lines′ slips′ (recordsOf school (end .accepted)) fields
+      ∙ rw (alone-accepted school lines′ slips′ l s, fresh-sound lines slips lines′ slips′ l s, inside) (sym (every-answer lines slips records fields))
+
+  -- the accounts of sound rooms
+  sound-accounts : sound (fresh lines slips .book) ≡ true → Accounts lines slips end
+  sound-accounts e =
+      let rooms : Rooms = roomsOf (fresh lines slips .book) in
+      let h = stands lines slips records e in
+      record {
+        orders = orders-summed rooms end (h .kept) (h .gives) (h .fit-to-book);
+        deliveries = deliveries-summed rooms end (h .kept) (h .gives) (h .fit-to-book);
+        slip-once = once rooms end (h .kept) (h .gives) (h .fit-to-book);
+        every-line = every-answer lines slips records;
+        alone-accepted = alone-accepted;
+        alone-answers = alone-answers;
+      }
+
+  -- into rooms of wrong size nothing is booked
+  unsound-accounts : sound (fresh lines slips .book) ≡ false → Accounts lines slips end
+  unfolding recordsOf keep total
+  unsound-accounts e =
+      let nothing : end .accepted ≡ [] = ap (λ (g : Given). g .accepted) (unsound-given records (fresh lines slips) e) in
+      record {
+        orders = λ school. rw nothing refl;
+        deliveries = λ school. rw nothing refl;
+        slip-once = λ slip. rw nothing (omega arith);
+        every-line = every-answer lines slips records;
+        alone-accepted = alone-accepted;
+        alone-answers = alone-answers;
+      }
+
+-- demand 3
+pub demand3 : Demand3
+demand3 =
+    record {
+      accepted-exactly = accepted-exactly;
+      accounts = λ lines slips records. split (sound (fresh lines slips .book)) (sound-accounts lines slips records) (unsound-accounts lines slips records);
+    }

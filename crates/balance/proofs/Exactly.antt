@@ -15,14 +15,15 @@ use Rattle.record.specs.declared.layout.Kind.the-variants.{Order, Goods, Closin
 use Rattle.entry.specs.Stored.{mostArrived, lineAt, keyAt, keyIs, slipKeyAt, slipIs}
 use Rattle.roundtrip.proofs.ReadExactly.{fits-record, record-fits}
 use Rattle.book.specs.Lent.{Lent, usedLines, usedSlips, lineRoom, slipRoom, findLine, findSlip}
-use Rattle.book.specs.Booking.{lineKey, slipKey, copiesIn, nothingToBook, noCopies, noReference, orderJudged, arrivalJudged, goodsJudged, deliveryJudged, reportJudged, bookJudged, fitJudged, book}
+use Rattle.book.specs.Booking.{lineKey, slipKey, copiesIn, orderJudged, arrivalJudged, goodsJudged, deliveryJudged, reportJudged, bookJudged, book}
 use Rattle.book.specs.declared.seek.Found.the-variants.{At, Nothing}
 use Rattle.book.specs.declared.answer.Verdict.the-variants.{Refuse, Fits}
 use Rattle.book.proofs.Searches.{found-at, none-at}
 use Rattle.balance.specs.Accepted.{NoLineWith, NoSlipWith, LineWith, OrderPasses, DeliveryPasses, ReportPasses, Passes, Acceptable, Accepted, AcceptedExactly}
 use Rattle.balance.proofs.Listings.{first-is, none-is, first-so}
 use Rattle.balance.proofs.Accepted.{Refuses, Accepts, refused-or-accepted}
-use Rattle.balance.proofs.Followed.{passed, order-fits, delivery-fits, report-fits}
+use Rattle.balance.proofs.Followed.{fit-passed, order-fits, delivery-fits, report-fits}
+use Rattle.balance.proofs.Bookable.{bookable}
 use Rattle.balance.proofs.Numbers.{verdictNumber, fit-answer}
 
 -- two lists that are not equal are not the same, and the other way round
@@ -97,21 +98,18 @@ module _ (s : List ℕ) (b : Lent) where
 
 -- an accepted record
 acceptable : (s : List ℕ) (b : Lent) → Accepts s b → Acceptable s b
-unfolding fitJudged
 acceptable s b a =
     let k : Kind = a .kind in
-    let one = passed (nothingToBook k s) _ _ (a .place) (a .fits) in
-    let two = passed (noCopies k s) _ _ (a .place) (one .1) in
-    let three = passed (noReference k s) _ _ (a .place) (two .1) in
+    let fit = bookable s b a in
     record {
       is-sound = a .is-sound;
       is-record = fits-record s (a .fields) (a .read);
       kind = k;
       named = a .known;
-      something = one .0;
-      copies = two .0;
-      referenced = three .0;
-      passes = passes-so s b k (a .place) (three .1);
+      something = fit .something;
+      copies = fit .copies;
+      referenced = fit .referenced;
+      passes = passes-so s b k (a .place) (fit-passed k s b (a .place) (a .fits) .1);
     }
 
 -- accepted exactly

@@ -1,5 +1,5 @@
-pub mod Accounts
 pub mod Accepted
+pub mod Accounts
 pub mod Bookable
 pub mod Demand3
 pub mod Entered
@@ -7,6 +7,7 @@ pub mod Exactly
 pub mod Figures
 pub mod Followed
 pub mod Found
+pub mod Given
 pub mod Keys
 pub mod Lines
 pub mod Listings

@@ -1,4 +1,4 @@
--- Document 01: a call by key gives a line's figures, or 20, then 16; a key field of wrong length matches no line.
+-- Asking for a line by the fields of its key (RULES 8).
 use Prim.Native.Nat.{ℕ}
 use mathlib.Core.Bool.{Bool, true, false, _&&_}
 use mathlib.Core.List.{List, [], _∷_}

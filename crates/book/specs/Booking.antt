@@ -1,4 +1,4 @@
--- Document 01, "Book": 20, 1 to 10, 13, 11, 12; then order 14, 15; delivery 17 or 18, 16, 21, 19; report 16.
+-- Booking a record into a lent book: its refusals in their order, and what an accepted record changes (RULES 7).
 use Prim.Native.Nat.{ℕ, _+_}
 use mathlib.Core.Bool.{Bool, true, false, _&&_, _||_}
 use mathlib.Core.List.{List, [], _∷_, map}
@@ -49,7 +49,7 @@ refusedNumber SlipDiffers = 18
 refusedNumber SlipsUsed = 19
 refusedNumber TooManyArrived = 21
 
--- from 11 on the place is 0
+-- only what reading refuses has a place
 unfoldable pub refusedPlace : Refused → ℕ
 refusedPlace (Unread r) = refusalPlace r
 refusedPlace Unsound = 0
@@ -68,7 +68,7 @@ refusedPlace TooManyArrived = 0
 abbrev pub fieldsIn : Kind → List ℕ → List ℕ → List (List ℕ)
 fieldsIn k is s = map (λ (i : ℕ). fieldBytes k i s) is
 
--- a line's key is school address and qualifier, supplier address and qualifier, reference, article and qualifier; in B101 the school is the sender, in L101 and M101 the recipient
+-- the fields of a record that make its line's key, by their indexes; the school's come first (RULES 6.1)
 unfoldable pub keyFields : Kind → List ℕ
 keyFields Order = 1 ∷ 2 ∷ 3 ∷ 4 ∷ 6 ∷ 7 ∷ 8 ∷ []
 keyFields Goods = 3 ∷ 4 ∷ 1 ∷ 2 ∷ 8 ∷ 9 ∷ 10 ∷ []
@@ -78,7 +78,7 @@ keyFields Report = 3 ∷ 4 ∷ 1 ∷ 2 ∷ 6 ∷ 7 ∷ 8 ∷ []
 unfoldable pub lineKey : Kind → List ℕ → List ℕ
 lineKey k s = joined (fieldsIn k (keyFields k) s)
 
--- a slip's key is supplier and school with qualifiers, date, slip number, position
+-- the fields of a goods record that make its slip's key (RULES 6.1)
 abbrev pub slipFields : List ℕ
 slipFields = 1 ∷ 2 ∷ 3 ∷ 4 ∷ 5 ∷ 6 ∷ 7 ∷ []
 
@@ -99,14 +99,14 @@ nothingToBook Goods s = allOf Blank (fieldBytes Goods 6 s)
 nothingToBook Closing s = true
 nothingToBook Report s = false
 
--- 11: quantity 0, order or goods
+-- 11: no copies are ordered, or none have come
 unfoldable pub noCopies : Kind → List ℕ → Bool
 noCopies Order s = eqb (copiesIn Order s .0) 0
 noCopies Goods s = eqb (copiesIn Goods s .0) 0
 noCopies Closing s = false
 noCopies Report s = false
 
--- 12: reference blank
+-- 12: there is no reference
 unfoldable pub noReference : Kind → List ℕ → Bool
 noReference Order s = allOf Blank (fieldBytes Order 6 s)
 noReference Goods s = allOf Blank (fieldBytes Goods 8 s)
@@ -175,7 +175,7 @@ lineAfter Goods s b i = withArrivals (copiesIn Goods s) (lineAt (b .lines) i)
 lineAfter Closing s b i = lineAt (b .lines) i
 lineAfter Report s b i = withMark (markIn s) (lineAt (b .lines) i)
 
--- success changes only the line, slip and used counts named
+-- the lent book after an accepted record (RULES 7.2)
 unfoldable pub lentAfter : Kind → List ℕ → Lent → ℕ → Lent
 lentAfter Order s b i =
     record { lines = addLine (b .lines) i (lineKey Order s) (lineAfter Order s b i); slips = b .slips; used = set (b .used) 0 (usedLines b + 1) }
@@ -199,7 +199,7 @@ outcome said b = record { said = said; lent = b }
 abbrev pub noFigures : Figures
 noFigures = record { ordered = copies 0; filled = copies 0; «still_open» = copies 0; «let_go» = copies 0; extra = copies 0 }
 
--- a refusal gives its number and place, zeros for all other values
+-- what a refusal says: no figures
 unfoldable pub refusedAs : Refused → Booked
 refusedAs r = record { answer = refusedNumber r; place = refusedPlace r; figures = noFigures }
 
@@ -211,7 +211,7 @@ doneAs l = record { answer = 0; place = 0; figures = figuresOf l }
 unfoldable pub enteredAs : Kind → List ℕ → Lent → ℕ → Outcome
 enteredAs k s b i = outcome (doneAs (lineAfter k s b i)) (lentAfter k s b i)
 
--- a refusal changes nothing lent
+-- the book stays as it was where a record is refused
 unfoldable pub settled : Kind → List ℕ → Lent → Verdict → Outcome
 settled k s b (Refuse r) = outcome (refusedAs r) b
 settled k s b (Fits i) = enteredAs k s b i

@@ -29,7 +29,7 @@ unfoldable pub desk : Lent → List (List ℕ) → List (List ℕ)
 desk b [] = []
 desk b (s ∷ ss) = printed (book s b .said) ∷ desk (book s b .lent) ss
 
--- document 01's input: X; Y; Y; Z; Y with position 0002 and quantity 0003; Z with 015J; Y with 0003 and 0005; Y with quantity 0005
+-- the desk's eight records (RULES 12)
 unfoldable pub sample : List (List ℕ)
 sample =
     X

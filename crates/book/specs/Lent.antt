@@ -1,4 +1,4 @@
--- Document 01, "The book": the lent book, when it is sound, and its first entry with a key.
+-- The lent book, when it is sound, and its first entry with a key (RULES 6.3, 6.4).
 use Prim.Native.Nat.{ℕ, zero, suc, _+_, _/_, _%_}
 use mathlib.Core.Bool.{Bool, true, _&&_}
 use mathlib.Core.List.{List, []}
@@ -24,7 +24,7 @@ usedLines b = getD (b .used) 0 0
 unfoldable pub usedSlips : Lent → ℕ
 usedSlips b = getD (b .used) 1 0
 
--- the caller lends room for 1 to 512 lines and 1 to 1,024 slips
+-- the most entries that a room may have (RULES 6.3)
 abbrev pub mostLines : ℕ
 mostLines = 512
 
@@ -55,14 +55,14 @@ allFrom p (suc n) i = p i && allFrom p n (suc i)
 unfoldable pub roomsSound : Lent → Bool
 roomsSound b = roomSound lineWidth mostLines (length (b .lines)) && roomSound slipWidth mostSlips (length (b .slips))
 
--- a book is sound if used counts are within the room, each slip names a used line, Q is 1 to 9,999, A at most 9,999,999, the mark one of the three
+-- both rooms have the right size, the used counts fit into them, and each used line and slip is sound (RULES 6.4)
 unfoldable pub sound : Lent → Bool
 sound b =
     roomsSound b
     && ((leb (usedLines b) (lineRoom b) && leb (usedSlips b) (slipRoom b))
     && (allFrom (lineSound (b .lines)) (usedLines b) 0 && allFrom (slipSound (usedLines b) (b .slips)) (usedSlips b) 0))
 
--- where keys repeat, the first entry counts
+-- the entry with a key: of several the first
 unfoldable pub findLine : Lent → List ℕ → Found
 findLine b key = firstFrom (keyIs (b .lines) key) (usedLines b) 0
 

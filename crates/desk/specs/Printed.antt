@@ -1,4 +1,4 @@
--- What is printed of each record (document 01, "Samples").
+-- What is printed of each record (RULES 11).
 use Prim.Native.Nat.{ℕ}
 use mathlib.Core.Bool.{_||_}
 use mathlib.Core.List.{List, [], _∷_}

@@ -1,4 +1,4 @@
--- A line's mark, its changes and its figures (document 01, "The book").
+-- A line's mark, its changes and its figures (RULES 6.2).
 use Prim.Native.Nat.{ℕ, _+_, _-_, min}
 use lib.Dec.{eqb}
 use Rattle.cells.specs.Bytes.{pick}
@@ -25,7 +25,7 @@ withMark m l = record { ordered = l .ordered; arrived = l .arrived; mark = m }
 unfoldable pub withArrivals : Copies → Line → Line
 withArrivals n l = record { ordered = l .ordered; arrived = copies (l .arrived .0 + n .0); mark = l .mark }
 
--- Q minus filled is let go where the last mark is N, otherwise open
+-- what is missing of the order is still open, or after an N let go (RULES 6.2)
 unfoldable pub openOf : Mark → Copies → Copies
 openOf Unmarked n = n
 openOf Held n = n
@@ -36,7 +36,7 @@ letGoOf Unmarked n = copies 0
 letGoOf Held n = copies 0
 letGoOf Dropped n = n
 
--- filled is the smaller of Q and A, extra is A minus filled
+-- what arrived fills the order first; the rest is extra
 unfoldable pub filledOf : Line → Copies
 filledOf l = copies (min (l .ordered .0) (l .arrived .0))
 

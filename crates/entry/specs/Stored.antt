@@ -35,7 +35,7 @@ slipKeyWidth = 46
 abbrev pub slipCopiesPlace : ℕ
 slipCopiesPlace = 48
 
--- Q is 1 to 9,999, A at most 9,999,999, the mark one of the three
+-- the limits of Q and of A (RULES 6.2)
 abbrev pub mostCopies : ℕ
 mostCopies = 9999
 
@@ -85,6 +85,6 @@ slipCopiesAt slips j = copies (leAt slips (slipWidth * j + slipCopiesPlace) 2)
 unfoldable pub addSlip : List ℕ → ℕ → List ℕ → ℕ → Copies → List ℕ
 addSlip slips j key line n = sets slips (slipWidth * j) (key ++ (leBytes 2 line ++ leBytes 2 (n .0)))
 
--- each slip names a used line
+-- the index in a slip is that of a line in use
 unfoldable pub slipSound : ℕ → List ℕ → ℕ → Bool
 slipSound lines slips j = ltb (slipLineAt slips j) lines

@@ -1,4 +1,4 @@
--- A file cut into records (document 01, "Records we handle"), and what is kept of it from byte to byte.
+-- A file cut into records (RULES 10), and what is kept of it from byte to byte.
 use Prim.Native.Nat.{ℕ, _+_, _-_, min}
 use mathlib.Core.Path.{_≡_}
 use mathlib.Core.Bool.{Bool, _&&_}
@@ -21,7 +21,7 @@ front s = take (length s - 1) s
 unfoldable pub endsAt : List ℕ → ℕ → Bool
 endsAt held b = eqb (lastOf 0 held) 13 && eqb b 10
 
--- bytes after the last CR LF, if any, are one more record
+-- what stands behind the last CR LF is a record too, unless it is nothing (RULES 10)
 unfoldable pub leftOver : List ℕ → List (List ℕ)
 leftOver [] = []
 leftOver (b ∷ bs) = (b ∷ bs) ∷ []

@@ -1,4 +1,4 @@
--- Document 01, "The book": lines and slips, and a line's figures.
+-- Lines and slips, and a line's figures (RULES 6.1, 6.2).
 use Prim.Native.Nat.{ℕ, _-_, min}
 use mathlib.Core.Bool.{Bool, true, false}
 use mathlib.Core.Option.{Option, none, some}
@@ -6,7 +6,7 @@ use mathlib.Core.List.{List}
 use lib.ListN.{take}
 use Rattle.cells.specs.Bytes.{pick, same}
 
--- a key's fields one after the other, as bytes. A line's: school address and qualifier, supplier address and qualifier, reference, article and qualifier. A slip's: supplier and school with qualifiers, date, slip number, position
+-- a key: fields of a record one after the other, as bytes; RULES 6.1 says which they are for a line and for a slip
 abbrev pub Key : Type 0
 Key = List ℕ
 
@@ -61,20 +61,20 @@ pub record Rooms : Type 0 where
 unfoldable pub ordered : Line → ℕ
 ordered l = l .asked .copies
 
--- filled is the smaller of Q and A
+-- ordered copies that have arrived
 unfoldable pub filled : Line → ℕ
 filled l = min (ordered l) (l .arrived)
 
--- extra is A minus filled
+-- copies that arrived beyond the order
 unfoldable pub extra : Line → ℕ
 extra l = l .arrived - filled l
 
--- the last mark is N
+-- the last report, if there is one, let the rest go
 unfoldable pub isN : Option Report → Bool
 isN none = false
 isN (some r) = elim (r .hold) [ J ↦ false | N ↦ true ]
 
--- Q minus filled is let go where the last mark is N, otherwise open
+-- ordered copies that have not arrived: let go after an N, else still open
 unfoldable pub letGo : Line → ℕ
 letGo l = pick (isN (l .last)) (ordered l - filled l) 0
 

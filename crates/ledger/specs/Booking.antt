@@ -1,4 +1,4 @@
--- Document 01, "Book": order 14, 15; delivery 17 or 18, 16, 21, 19; report 16; and what an accepted record does.
+-- Booking on lists: the refusals of each kind in their order, and what an accepted record does (RULES 7).
 use Prim.Native.Nat.{ℕ, _+_}
 use mathlib.Core.Bool.{Bool, false, not, _&&_}
 use mathlib.Core.Option.{Option, none, some}
@@ -15,7 +15,7 @@ pub data Fit : Type 0 where
   goods : Key → Goods → Fit
   report : Key → Report → Fit
 
--- where keys repeat, the first entry counts
+-- the entry with a key: of several the first
 unfoldable pub lineAt : Key → List Line → Option Line
 lineAt k ls = first (λ l. same k (l .key)) ls
 
@@ -68,15 +68,15 @@ tests rooms b (report k m) =
 unfoldable pub judge : Rooms → Book → Fit → Answer
 judge rooms b r = firstOf (tests rooms b r)
 
--- an accepted order adds a line
+-- the line that an accepted order begins: nothing has arrived, and no report has come
 abbrev pub newLine : Key → Order → Line
 newLine k o = record { key = k; asked = o; arrived = 0; last = none }
 
--- an accepted delivery adds to its line's arrivals
+-- the line after a delivery: so many copies more have arrived
 unfoldable pub arrive : ℕ → Line → Line
 arrive n l = record { key = l .key; asked = l .asked; arrived = l .arrived + n; last = l .last }
 
--- an accepted report sets the mark
+-- the line after a report, which is now its last
 unfoldable pub tell : Report → Line → Line
 tell m l = record { key = l .key; asked = l .asked; arrived = l .arrived; last = some m }
 

@@ -1,4 +1,4 @@
--- Document 01, "Answer numbers": the number and the place of each refusal of reading.
+-- The number and the place of each refusal of reading (RULES 3.2, 4.1).
 use Prim.Native.Nat.{ℕ}
 use Rattle.record.specs.Layout.{mostBytes}
 use Rattle.record.specs.declared.answer.Refusal.{Refusal}
@@ -33,7 +33,7 @@ refusalPlace (Content p) = p
 refusalPlace (Group p) = p
 refusalPlace SmallTable = 0
 
--- a refusal gives its number and place, zeros for all other values; 0 is done, with the number of optional fields
+-- what a refusal says, and what a reading that is done says (RULES 3.1)
 unfoldable pub checkedOf : Verdict → Checked
 checkedOf (Refused r) = record { answer = refusalNumber r; place = refusalPlace r; fields = 0 }
 checkedOf (Fits n) = record { answer = 0; place = 0; fields = n }

@@ -1,4 +1,4 @@
--- Document 01, "Optional fields": the listed contents and the groups as data.
+-- The contents and the groups of optional fields, as data (RULES 2.3, 2.4).
 use Prim.Native.Nat.{ℕ}
 use mathlib.Core.Bool.{Bool, false, not, _&&_, _||_}
 use mathlib.Core.List.{List, [], _∷_}
@@ -59,11 +59,11 @@ unfoldable pub ruleIn : ℕ → List Listed → Rule
 ruleIn id [] = Free
 ruleIn id (row ∷ rows) = pick (isIn id (row .ids)) (row .rule) (ruleIn id rows)
 
--- the rule of an ID's content; an ID not listed is kept with any content
+-- the rule of an ID's content; an ID that no row has takes any content
 unfoldable pub contentRule : ℕ → Rule
 contentRule id = ruleIn id contents
 
--- in a B101 the bytes * + : ? ' may not stand in these fields
+-- the fields of an order that hold no barred byte
 unfoldable pub guardedIds : List ℕ
 guardedIds = 1001 ∷ 1003 ∷ 1051 ∷ 9010 ∷ []
 
@@ -77,7 +77,7 @@ guarded Report id = false
 unfoldable pub contentKept : Kind → ℕ → List ℕ → Bool
 contentKept k id c = not (guarded k id && any barred c) && keeps (contentRule id) [] c
 
--- groups stand unbroken
+-- the groups, each in its order (RULES 2.4)
 unfoldable pub groups : List (List ℕ)
 groups =
     (1017 ∷ 1018 ∷ [])
@@ -124,6 +124,6 @@ previousMember id = previousIn noMember id (groupWith id groups)
 unfoldable pub isWanted : ℕ → ℕ → Bool
 isWanted member neighbour = eqb member noMember || eqb member neighbour
 
--- a field breaks its group if its next member doesn't follow at once, or if it isn't first and its previous member doesn't stand just before
+-- the members that belong beside an ID in its group stand beside it (RULES 2.4)
 unfoldable pub groupKept : ℕ → ℕ → ℕ → Bool
 groupKept before id after = isWanted (nextMember id) after && isWanted (previousMember id) before

@@ -1,4 +1,4 @@
--- Document 01, "Optional fields": each is a star, four digits of ID, content without a star; *9999 ends the record.
+-- The optional fields of a record: their shape, and the two walks over them (RULES 2.1, 4.2).
 use Prim.Native.Nat.{ℕ, zero, suc, _+_}
 use mathlib.Core.Bool.{Bool, not, _&&_}
 use mathlib.Core.List.{List, [], _∷_, _++_}
@@ -62,12 +62,12 @@ onHead (Id id) n p t more = pick (eqb id lastId) (pick (eqb (length t) headWidth
 unfoldable pub atField : ℕ → ℕ → List ℕ → Verdict → Verdict
 atField n p t more = pick (eqb (length t) 0) (Refused (LastField p)) (onHead (headOf t) n p t more)
 
--- one walk giving 6 to 8: room is how many fields may still stand before *9999
+-- the first walk: 6, 7 and 8; room is how many more fields there may be
 unfoldable pub walk : ℕ → ℕ → ℕ → List ℕ → Verdict
 walk zero n p t = atField n p t (Refused (TooManyFields p))
 walk (suc room) n p t = atField n p t (walk room (n + 1) (p + fieldWidth t) (afterField t))
 
--- one walk giving 9, then 10, at each of n fields; before is the ID of the field before the first
+-- the second walk: 9 and then 10 at each of n fields; before is the ID of the field before the first
 unfoldable pub judge : Kind → ℕ → ℕ → ℕ → List ℕ → Verdict
 judge k zero before p t = Fits 0
 judge k (suc n) before p t =

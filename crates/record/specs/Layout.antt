@@ -1,4 +1,4 @@
--- Document 01, "Records we handle" and "Fixed parts": the kinds of records and the layout of each as data.
+-- The kinds of records and the layout of each, as data (RULES 2.1, 2.2).
 use Prim.Native.Nat.{ℕ, suc, _+_}
 use mathlib.Core.List.{List, [], _∷_, _++_}
 use lib.ListN.{length, take, drop}
@@ -17,11 +17,11 @@ use Rattle.record.specs.declared.layout.Kind.the-variants.{Order, Goods,
 use Rattle.record.specs.declared.layout.Kinded.{Kinded}
 use Rattle.record.specs.declared.layout.Kinded.the-variants.{Known, Unknown}
 
--- a record is at most this long without its line end
+-- the most bytes of a record
 abbrev pub mostBytes : ℕ
 mostBytes = 1024
 
--- with at most this many optional fields before *9999
+-- the most optional fields of a record
 abbrev pub mostFields : ℕ
 mostFields = 64
 
@@ -38,7 +38,7 @@ noField = 0 ∶ Free
 abbrev pub kind : Field
 kind = 4 ∶ Free
 
--- one or more digits or capitals, then blanks only
+-- digits and capitals from the left, at least one, and blanks behind them
 abbrev pub address : Field
 address = 10 ∶ Padded Account 1 10
 
@@ -49,11 +49,11 @@ addressQualifier = 2 ∶ OneOf Party
 abbrev pub date : Field
 date = dayWidth ∶ Date
 
--- reference and slip number: all blank, or first byte not blank
+-- a reference or slip number begins at its first byte, or there is none
 abbrev pub reference : Field
 reference = 10 ∶ Named Any
 
--- in a B101 the bytes * + : ? ' may not stand in the reference
+-- the reference of an order, without barred bytes
 abbrev pub orderReference : Field
 orderReference = 10 ∶ Named Unbarred
 
@@ -91,7 +91,7 @@ layout Order = head ++ (
     ∷ article
     ∷ articleQualifier
     ∷ digits 4  -- quantity
-    ∷ 2 ∶ OneOf Measure  -- order qualifier: ST or NP
+    ∷ 2 ∶ OneOf Measure  -- order qualifier
     ∷ [])
 layout Goods = head ++ (
     date
@@ -105,7 +105,7 @@ layout Goods = head ++ (
     ∷ capitals 2  -- price qualifier
     ∷ capitals 3  -- currency
     ∷ digits 8  -- discount
-    ∷ 1 ∶ OneOf TaxMark  -- 0, 1, 2 or 6
+    ∷ 1 ∶ OneOf TaxMark  -- tax mark
     ∷ [])
 layout Closing = head ++ (
     zeros 8  -- date
@@ -127,9 +127,9 @@ layout Report = head ++ (
     ∷ article
     ∷ articleQualifier
     ∷ digits 3  -- message
-    ∷ 1 ∶ OneOf HoldMark  -- J or N
+    ∷ 1 ∶ OneOf HoldMark  -- hold mark
     ∷ dayWidth ∶ ExpectedDate
-    ∷ zeros 4  -- partial quantity: 0000 only
+    ∷ zeros 4  -- partial quantity
     ∷ [])
 
 -- the length of a fixed part
@@ -152,7 +152,7 @@ kindWidth = 4
 abbrev pub dateStart : ℕ
 dateStart = 28
 
--- the kind that the first four bytes name; an L101 whose date is eight zeros is a closing record, any other a goods record
+-- the kind that the first four bytes name; the date of a delivery tells a closing record from goods (RULES 2.1)
 unfoldable pub kindOf : List ℕ → Kinded
 kindOf s =
     pick (same (slice 0 kindWidth s) (bytes "B101")) (Known Order)

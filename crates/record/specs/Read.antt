@@ -1,4 +1,4 @@
--- Document 01, "Read": 23 first (table under 64 entries), then 1 to 5, then one walk giving 6 to 8, then one walk giving 9, then 10, at each field.
+-- Reading a record: its refusals in their order, the table of its optional fields, and typed records (RULES 4).
 use Prim.Native.Nat.{ℕ, _+_, _*_}
 use mathlib.Core.List.{List, [], _++_}
 use lib.Dec.{eqb, ltb}
@@ -23,11 +23,11 @@ use Rattle.record.specs.declared.answer.ReadOrder.{ReadOrder}
 use Rattle.record.specs.declared.answer.ReadDelivery.{ReadDelivery}
 use Rattle.record.specs.declared.answer.ReadReport.{ReadReport}
 
--- 4: the first byte not allowed
+-- 4, at the byte
 unfoldable pub bytesJudged : List ℕ → Verdict
 bytesJudged s = pick (eqb (run (belongs Allowed) s) (length s)) (Fits 0) (Refused (Byte (run (belongs Allowed) s)))
 
--- 5: the first fixed field that breaks its rule; place its start
+-- 5, where the field starts
 unfoldable pub fixedJudged : Kind → List ℕ → Verdict
 fixedJudged k s =
     pick (eqb (firstBroken (layout k) s) (length (layout k))) (Fits 0)

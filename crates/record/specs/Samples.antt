@@ -1,4 +1,4 @@
--- Document 01, "Samples": X, Y and Z, and the cases marked P as one table.
+-- The sample records X, Y and Z, and the cases of RULES 12 as one table.
 use Prim.Native.Nat.{ℕ, suc, _-_}
 use Prim.Native.String.{String}
 use mathlib.Core.Bool.{Bool, true, false, _&&_}

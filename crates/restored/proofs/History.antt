@@ -15,7 +15,7 @@ use Rattle.book.proofs.Sounds.{sound-so}
 use Rattle.balance.specs.Told.{lineTold, slipTold, told, roomsOf, fitOf}
 use Rattle.balance.specs.Demand3.{giveAll}
 use Rattle.balance.proofs.Found.{same-turned}
-use Rattle.balance.proofs.Demand3.{Booked, all-given}
+use Rattle.balance.proofs.Given.{Booked, all-given}
 use Rattle.save.specs.Load.{load}
 use Rattle.restored.specs.Restored.{Tells}
 use Rattle.restored.specs.History.{historyOf, resumed, stateAfter, Resumes, ResumesLoaded}

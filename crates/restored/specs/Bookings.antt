@@ -14,7 +14,7 @@ use Rattle.restored.specs.Restored.{Bytes, Orderly, SameBook, Holds, sav
 abbrev pub bookOf : List ℕ → List ℕ → List (List ℕ) → Lent
 bookOf lines slips records = giveAll (fresh lines slips) records .book
 
--- it keeps the rules of a save, no two lines and no two slips share a key, and each A is its slips' sum
+-- every such book is orderly, whatever came down the line
 abbrev pub BookingsOrderly : Type 0
 BookingsOrderly = (lines slips : List ℕ) (records : List (List ℕ)) → sound (fresh lines slips .book) ≡ true → Orderly (bookOf lines slips records)
 

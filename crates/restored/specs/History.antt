@@ -1,4 +1,4 @@
--- Loading a saved book starts from the history its entries state: demand 3 from there on, the statement.
+-- Demand 3 goes on after a load, from the history that the loaded entries tell: the statement (RULES 9.5).
 use Prim.Native.Nat.{ℕ}
 use mathlib.Core.Path.{_≡_}
 use mathlib.Core.Option.{Option, none, some}

@@ -18,7 +18,7 @@ use Rattle.save.specs.Load.{Outcome, load}
 abbrev pub Bytes : List ℕ → Type 0
 Bytes s = all (λ b. ltb b 256) s ≡ true
 
--- the book is sound and keeps the rules of a save, no two lines and no two slips share a key, and each A is its slips' sum
+-- a book that comes back from its save (RULES 9.5): sound, its entries as a save may have them, each A what its slips come to
 pub record Orderly (b : Lent) : Type 0 where
   pub is-sound : sound b ≡ true
   pub entries : entriesKept (usedLines b) (usedSlips b) (lineBodyAt (b .lines)) (slipBodyAt (b .slips)) ≡ true
@@ -42,7 +42,7 @@ pub record Holds (c b : Lent) : Type 0 where
 abbrev pub savedBytes : Written → List ℕ
 savedBytes w = take (w .said .length) (w .out)
 
--- load of a save gives a book with equal counts and used entries
+-- a book that was saved and loaded uses the same entries as before
 abbrev pub LoadOfSave : Type 0
 LoadOfSave =
     (b c : Lent) (out : List ℕ) → Orderly b → Bytes (b .lines) → Holds c b → save b out .said .answer ≡ 0

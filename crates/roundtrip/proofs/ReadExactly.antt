@@ -6,7 +6,7 @@ use native.Mathlib.Nat.{zero-add}
 use native.Mathlib.Omega.{arith}
 use borrow.Author.Tests.{ltb-true, ltb-false, le-ltb}
 use lib.Dec.{ltb}
-use lib.ListN.{length, take, drop, length-append, take-append-drop}
+use lib.ListN.{length, take, drop, replicate, length-append, take-append-drop}
 use lib.Seq.{length-take-le, drop-at, take-append-seam}
 use Rattle.cells.proofs.Bools.{split}
 use Rattle.rules.specs.Class.{belongs}
@@ -27,7 +27,7 @@ use Rattle.record.specs.declared.layout.Kinded.the-variants.{Known}
 use Rattle.reader.proofs.Stages.{by-kind, kind-rest, judge-fits, small-table, check-fits}
 use Rattle.reader.proofs.Fitting.{Fitting, fitting, fits-known, fits-long, fits-count}
 use Rattle.writing.specs.Write.{entries, optionalOf, optionalText, recordText}
-use Rattle.roundtrip.specs.Record.{Parts, fixedPart, MakesRecord, textOf, IsRecord}
+use Rattle.roundtrip.specs.Record.{Parts, fixedPart, MakesRecord, IsRecord}
 use Rattle.roundtrip.specs.Demand2.{LargeTable, Tabled, ReadExactly, ReadsParts}
 use Rattle.roundtrip.proofs.Texts.{AllWritable, text-least, text-walked, text-fields}
 use Rattle.roundtrip.proofs.Fronts.{date-inside, kind-front, broken-front}
@@ -208,12 +208,6 @@ fits-record s n e =
       text = ap (λ (x : List ℕ). recordText x (m .parts .optional)) (m .same-fixed) ∙ ap (recordText _) (m .same-optional) ∙ fits-text (k .0) s n (k .1) e;
     }
 
--- and a record fits
-pub record-fits : (s : List ℕ) → IsRecord s → (n : ℕ) × (judged s ≡ Fits n)
-record-fits s r =
-    let o : List Optional = r .parts .optional in
-    (length o, rw (← r .text) (tabled-fits (textOf (r .parts)) o (reads-parts (r .parts) (r .makes) .same-optional)))
-
 -- reading answers 0 for the texts of records, where the table is large, and for nothing else
 pub read-exactly : (s lent : List ℕ) → ReadExactly s lent
 unfolding checkedOf
@@ -221,3 +215,9 @@ read-exactly s lent = record {
   only-records = λ e. let d = check-done s lent e in (table-large s lent e, fits-record s (d .0) (d .1));
   all-records = λ h r. rw (← r .text) (rw (reads-parts (r .parts) (r .makes) .same-optional .reads lent h));
 }
+
+-- so a record fits
+pub record-fits : (s : List ℕ) → IsRecord s → (n : ℕ) × (judged s ≡ Fits n)
+record-fits s r =
+    let lent : List ℕ = replicate (mostFields * entryWidth) 0 in
+    check-done s lent (read-exactly s lent .all-records (omega arith) r)

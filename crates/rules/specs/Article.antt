@@ -1,4 +1,4 @@
--- Article by qualifier.
+-- Articles, and how their qualifiers have them written (RULES 1.4).
 use Prim.Native.Nat.{ℕ, _+_, _*_, _%_}
 use mathlib.Core.Bool.{Bool, true, _&&_}
 use mathlib.Core.List.{List, [], _∷_}
@@ -19,7 +19,7 @@ weighted [] s = 0
 weighted (w ∷ ws) [] = 0
 weighted (w ∷ ws) (b ∷ bs) = w * checkValue b + weighted ws bs
 
--- GS1: 1, 3, 1, .. over twelve digits, then the check digit itself
+-- the weights of EN, that of the check digit last
 abbrev pub gs1Weights : List ℕ
 gs1Weights = 1 ∷ 3 ∷ 1 ∷ 3 ∷ 1 ∷ 3 ∷ 1 ∷ 3 ∷ 1 ∷ 3 ∷ 1 ∷ 3 ∷ 1 ∷ []
 
@@ -31,7 +31,7 @@ isbnWeights = 10 ∷ 9 ∷ 8 ∷ 7 ∷ 6 ∷ 5 ∷ 4 ∷ 3 ∷ 2 ∷ 1 ∷ []
 abbrev pub low : ℕ → Bool
 low w = leb w 10
 
--- 13 digits with the GS1 check digit: the total is a multiple of ten
+-- EN: ten divides the weighted sum of 13 digits
 unfoldable pub gs1 : List ℕ → Bool
 gs1 s = ofClass Digit 13 13 s && eqb (weighted gs1Weights s % 10) 0
 
@@ -39,11 +39,11 @@ gs1 s = ofClass Digit 13 13 s && eqb (weighted gs1Weights s % 10) 0
 unfoldable pub isbn : List ℕ → Bool
 isbn s = allOf Digit (slice 0 9 s) && (ofClass DigitOrX 1 1 (slice 9 10 s) && eqb (weighted isbnWeights s % 11) 0)
 
--- three digits, five blanks, five digits
+-- RK: a series of three digits and a volume of five, blanks between
 unfoldable pub seriesVolume : List ℕ → Bool
 seriesVolume s = allOf Digit (slice 0 3 s) && (allOf Blank (slice 3 8 s) && ofClass Digit 5 5 (slice 8 13 s))
 
--- the article of 13 bytes by the qualifier that stands after it; another qualifier breaks its own rule, not the article's
+-- 13 bytes, judged by the qualifier after them; an unknown one asks nothing of them (RULES 1.4)
 unfoldable pub article : List ℕ → List ℕ → Bool
 article qualifier s =
     pick (same qualifier (bytes "EN")) (gs1 s)

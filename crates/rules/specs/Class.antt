@@ -1,4 +1,4 @@
--- The bytes that document 01 names, the classes of bytes that its rules speak of, and fields made of one class.
+-- The bytes that the rules name, the classes of bytes, and fields made of one class (RULES 1.1, 1.5).
 use Prim.Native.Nat.{ℕ}
 use mathlib.Core.Bool.{Bool, true, not, _&&_, _||_}
 use mathlib.Core.List.{List}
@@ -8,11 +8,11 @@ use Rattle.cells.specs.Bytes.{within, all, run}
 use Rattle.rules.specs.declared.class.Class.{Class}
 use Rattle.rules.specs.declared.class.Class.the-variants.{Any, Allowed, Digit, Capital, Account, Blank, Zero, Unbarred, DigitOrX}
 
--- allowed bytes: 32 to 126 and 160 to 255
+-- bytes that a record may hold (RULES 1.1)
 abbrev pub allowed : ℕ → Bool
 allowed b = within 32 126 b || within 160 255 b
 
--- blank means byte 32
+-- the one byte that is blank
 abbrev pub blank : ℕ → Bool
 blank b = eqb b 32
 
@@ -23,7 +23,7 @@ digit b = within 48 57 b
 abbrev pub zeroDigit : ℕ → Bool
 zeroDigit b = eqb b 48
 
--- capitals are A to Z
+-- a large letter, without accents
 abbrev pub capital : ℕ → Bool
 capital b = within 65 90 b
 
@@ -62,6 +62,6 @@ ofClass c least most s = within least most (length s) && allOf c s
 unfoldable pub padded : Class → ℕ → ℕ → List ℕ → Bool
 padded c least most s = within least most (run (belongs c) s) && allOf Blank (drop (run (belongs c) s) s)
 
--- all blank, or first byte not blank; bytes of a class only
+-- a name: empty, or begun at its first byte; bytes of a class only
 unfoldable pub named : Class → List ℕ → Bool
 named c s = allOf c s && (allOf Blank s || not (blank (getD s 0 0)))

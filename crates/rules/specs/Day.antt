@@ -1,4 +1,4 @@
--- Date: eight digits of a real Gregorian day, years 0001 to 9999.
+-- Days of the Gregorian calendar (RULES 1.3).
 use Prim.Native.Nat.{ℕ, _%_}
 use mathlib.Core.Bool.{Bool, not, _&&_, _||_}
 use mathlib.Core.List.{List, [], _∷_}

@@ -31,11 +31,11 @@ texts YesOnly = bytes "J" ∷ []
 texts YesOrU = bytes "J" ∷ bytes "U" ∷ []
 texts Medium = bytes "PHY" ∷ bytes "DIG" ∷ []
 
--- 1 to 3 digits, 1 to 360
+-- a number of days, as ID 1203 has it
 unfoldable pub dayCount : List ℕ → Bool
 dayCount s = ofClass Digit 1 3 s && within 1 360 (number s)
 
--- an expected date is a day, eight zeros (001) or eight blanks (004)
+-- the three forms of an expected date
 unfoldable pub expected : List ℕ → Bool
 expected s = isDay s || (ofClass Zero dayWidth dayWidth s || ofClass Blank dayWidth dayWidth s)
 

@@ -14,11 +14,11 @@ use Rattle.rules.specs.declared.amount.Copies.{Copies}
 use Rattle.rules.specs.declared.expected.Expected.{Expected}
 use Rattle.rules.specs.declared.expected.Expected.the-variants.{On, Zeros, Blanks}
 
--- price in ten-thousandths of the currency
+-- a price counts ten-thousandths of its currency
 abbrev pub priceOf : List ℕ → Price
 priceOf s = record { 0 = number s }
 
--- discount in ten-thousandths of a percent
+-- a discount counts ten-thousandths of one percent
 abbrev pub discountOf : List ℕ → Discount
 discountOf s = record { 0 = number s }
 

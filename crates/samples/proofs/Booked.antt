@@ -25,7 +25,7 @@ use Rattle.book.specs.Pairs.{trials, firstWrong as trialWrong}
 
 -- the line that X adds, asked for by its key
 calls-by-key : asked (book X (roomy 1 1) .lent) ≡ askedSay
-unfolding all any run same among leAt leBytes belongs allOf ofClass padded named numberFrom leap monthDays realDay dayOf isDay checkValue weighted gs1 isbn seriesVolume article texts dayCount expected keeps layout total fixedWidth startOf kindOf firstBroken contents isIn ruleIn contentRule guardedIds guarded contentKept groups firstOf nextIn previousIn groupWith nextMember previousMember isWanted groupKept refusalNumber refusalPlace checkedOf _then_ headOf idIn idOf contentWidth contentOf fieldWidth afterField onHead atField walk judge fieldBytes bytesJudged fixedJudged afterWalk optionalJudged kindJudged judged markByte withMark withArrivals openOf letGoOf filledOf figuresOf lineAt lineBytes putLine addLine keyAt keyIs lineSound slipKeyAt slipIs slipLineAt slipCopiesAt addSlip slipSound usedLines usedSlips lineRoom slipRoom roomSound roomsSound firstFrom allFrom sound findLine findSlip refusedNumber refusedPlace joined keyFields lineKey slipKey copiesIn nothingToBook noCopies noReference markIn orderJudged slipJudged arrivalJudged goodsJudged deliveryJudged reportJudged bookJudged fitJudged newLine lineAfter lentAfter refusedAs doneAs enteredAs settled bookAs bookKind bookRead book areWide joined figuresAt figuresOfKey lineAsked asked askedSay
+unfolding all any run same among leAt leBytes belongs allOf ofClass padded named numberFrom leap monthDays realDay dayOf isDay checkValue weighted gs1 isbn seriesVolume article texts dayCount expected keeps layout total fixedWidth startOf kindOf firstBroken contents isIn ruleIn contentRule guardedIds guarded contentKept groups firstOf nextIn previousIn groupWith nextMember previousMember isWanted groupKept refusalNumber refusalPlace checkedOf _then_ headOf idIn idOf contentWidth contentOf fieldWidth afterField onHead atField walk judge fieldBytes bytesJudged fixedJudged afterWalk optionalJudged kindJudged judged markByte withMark withArrivals openOf letGoOf filledOf figuresOf lineAt lineBytes putLine addLine keyAt keyIs lineSound slipKeyAt slipIs slipLineAt slipCopiesAt addSlip slipSound usedLines usedSlips lineRoom slipRoom roomSound roomsSound firstFrom allFrom sound findLine findSlip refusedNumber refusedPlace joined keyFields lineKey slipKey copiesIn nothingToBook noCopies noReference markIn orderJudged slipJudged arrivalJudged goodsJudged deliveryJudged reportJudged bookJudged fitJudged newLine lineAfter lentAfter refusedAs doneAs enteredAs settled bookAs bookKind bookRead book areWide figuresAt figuresOfKey lineAsked asked askedSay
 calls-by-key = refl
 
 pub record Computed : Type 0 where

@@ -1,4 +1,4 @@
--- Document 01, "Saved book": what its entries hold. An entry's body is given by its index: key 49, Q 2, mark 1 of a line; key 46, line index 2, quantity 2 of a slip.
+-- What the entries of a save hold (RULES 9.1). The body of an entry is given by its index.
 use Prim.Native.Nat.{ℕ, zero, suc, _+_}
 use mathlib.Core.Bool.{Bool, not, _&&_}
 use mathlib.Core.List.{List, map}
@@ -16,7 +16,7 @@ use Rattle.entry.specs.Stored.{keyWidth, markAt, slipKeyWidth, slipCopiesPlace,
 use Rattle.book.specs.Lent.{allFrom}
 use Rattle.book.specs.Booking.{keyFields, slipFields}
 
--- the mark is one of the three: 0 none, 1 J, 2 N
+-- the highest byte that is a mark
 abbrev pub mostMark : ℕ
 mostMark = 2
 
@@ -38,7 +38,7 @@ nameWidth = 10
 unfoldable pub goodsFields : List ℕ → List Field
 goodsFields is = map (λ i. getD (layout Goods) i noField) is
 
--- key fields stand in the order named and obey the field rules of goods records; the reference or slip number, which stands at a place, is not blank
+-- a key is as a goods record could have it (RULES 9.1): allowed bytes, each field by its rule, and something in the name that stands at a place
 unfoldable pub keyKept : List ℕ → ℕ → List ℕ → Bool
 keyKept fields at key =
     allOf Allowed key && (eqb (firstBroken (goodsFields fields) key) (length fields) && not (allOf Blank (slice at (at + nameWidth) key)))
@@ -49,7 +49,7 @@ lineKept body =
     keyKept (keyFields Goods) referenceAt (take keyWidth body)
     && (within 1 mostCopies (leAt body keyWidth 2) && leb (getD body markAt 0) mostMark)
 
--- a slip's school and supplier are its line's; a slip's key begins with the supplier, a line's with the school
+-- a slip and its line are of one school and one supplier; a slip's key begins with the supplier, a line's with the school
 unfoldable pub partiesAgree : List ℕ → List ℕ → Bool
 partiesAgree slip line =
     same (slice 0 partyWidth slip) (slice partyWidth (partyWidth + partyWidth) line)

@@ -1,4 +1,4 @@
--- Document 01, "Saved book": loading a save into a lent book. Load: 20 for room sizes alone, 22, 23.
+-- Loading a save into a lent book (RULES 9.4).
 use Prim.Native.Nat.{ℕ}
 use mathlib.Core.Bool.{_&&_}
 use mathlib.Core.List.{List, _++_}
@@ -18,7 +18,7 @@ use Rattle.save.specs.declared.answer.Loaded.{Loaded}
 unfoldable pub loadedLine : List ℕ → ℕ → ℕ → ℕ → List ℕ
 loadedLine s n m i = lineIn s i ++ leBytes 4 (arrivedOn (slipIn s n) m i)
 
--- load replaces the counts and the entries it fills
+-- the lent book with the counts and entries of the save in it
 unfoldable pub lentLoaded : List ℕ → ℕ → ℕ → Lent → Lent
 lentLoaded s n m b =
     record {
@@ -35,7 +35,7 @@ pub record Outcome : Type 0 where
 abbrev pub outcome : Loaded → Lent → Outcome
 outcome said b = record { said = said; lent = b }
 
--- a refusal changes nothing lent
+-- what a refusal says
 unfoldable pub notLoaded : Refused → Loaded
 notLoaded r = record { answer = refusedNumber r; place = 0 }
 

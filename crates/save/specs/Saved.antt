@@ -1,4 +1,4 @@
--- Document 01, "Saved book": the saved form, saving, and the bytes that are exactly a valid save.
+-- The saved form, saving, and the bytes that are exactly a valid save (RULES 9.2, 9.3).
 use Prim.Native.Nat.{ℕ, zero, suc, _+_, _*_, _-_}
 use mathlib.Core.Bool.{Bool, _&&_}
 use mathlib.Core.List.{List, [], _∷_, _++_}
@@ -76,7 +76,7 @@ slipEntries slips m = joinedFrom (λ j. slipKind ∷ slipBodyAt slips j) m 0
 unfoldable pub endEntry : ℕ → ℕ → List ℕ
 endEntry n m = endKind ∷ (leBytes countWidth n ++ leBytes countWidth m)
 
--- the saved book: lines first, then slips, in book order, then the end
+-- a save: the used lines, the used slips, the end (RULES 9.2)
 unfoldable pub savedForm : Lent → List ℕ
 savedForm b = lineEntries (b .lines) (usedLines b) ++ (slipEntries (b .slips) (usedSlips b) ++ endEntry (usedLines b) (usedSlips b))
 
@@ -95,7 +95,7 @@ written said out = record { said = said; out = out }
 unfoldable pub notSaved : Refused → Saved
 notSaved r = record { answer = refusedNumber r; place = 0; length = 0 }
 
--- Save: 20, 23
+-- saving, with its two refusals in order (RULES 9.3)
 unfoldable pub save : Lent → List ℕ → Written
 save b out =
     pick (sound b)
@@ -136,7 +136,7 @@ inForm n m s =
     && (allOfKind lineKind savedLineWidth 0 n s
     && (allOfKind slipKind savedSlipWidth (savedLineWidth * n) m s && eqb (getD s (savedLineWidth * n + savedSlipWidth * m) 0) endKind))
 
--- these bytes are exactly a valid save
+-- a valid save and not a byte more (RULES 9.2)
 unfoldable pub isSave : List ℕ → Bool
 isSave s =
     leb endWidth (length s)

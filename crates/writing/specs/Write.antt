@@ -1,4 +1,4 @@
--- Document 01, "Write": 5, 8, 23 for a table under its count, then 9 and 10 per field, 1, 23.
+-- Writing a record: its refusals in their order, and the bytes that it writes (RULES 5).
 use Prim.Native.Nat.{ℕ, zero, suc, _+_, _-_, _*_, min}
 use mathlib.Core.Bool.{Bool, not, _&&_}
 use mathlib.Core.List.{List, [], _∷_, _++_}
@@ -34,7 +34,7 @@ refusalNumber (Group i) = 10
 refusalNumber TooLong = 1
 refusalNumber SmallOutput = 23
 
--- its place is, for 5, 9 and 10, the index from 0 of the fixed or optional field, for 8, 64, else 0
+-- the place of a refusal: in writing an index, not a byte (RULES 5.1)
 unfoldable pub refusalPlace : Refusal → ℕ
 refusalPlace (FixedField i) = i
 refusalPlace TooManyFields = mostFields
@@ -60,7 +60,7 @@ unfoldable pub fieldHolding : List Field → ℕ → ℕ
 fieldHolding [] p = 0
 fieldHolding (f ∷ fs) p = pick (ltb p (f .size)) 0 (suc (fieldHolding fs (p - f .size)))
 
--- the first fixed field that breaks its rule or holds a byte not allowed
+-- the index of the first fixed field with a fault, in its rule or in one of its bytes
 unfoldable pub firstFaulty : Kind → List ℕ → ℕ
 firstFaulty k fixed = min (firstBroken (layout k) fixed) (fieldHolding (layout k) (run (belongs Allowed) fixed))
 
