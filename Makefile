@@ -1,9 +1,9 @@
 # Wizqamul. Two commands do everything, and set up what they need:
 #   make book FILE=examples/day.bwa   books the records of a file into an empty book, one line printed for each
 #   make test                         the whole gate; its last line is `N passed, 0 failed`
-# Besides: make lib, make host, make compare, make bench, make fuzz, make clean.
+# Besides: make lib, make host, make compare, make bench, make fuzz, make mutants, make clean.
 
-.PHONY: book test lib host compare desk-compare sanitized header bench fuzz tools clean
+.PHONY: book test lib host compare desk-compare sanitized header bench fuzz mutants reference-mutants host-mutants tools clean
 
 # The library is x86-64 code. On another machine its C programs are built by Debian's cross compiler and run under its emulator.
 ifeq ($(shell uname -m),x86_64)
@@ -61,6 +61,16 @@ desk-compare: target/c/desk target/bin/desk
 SEED ?= 1
 fuzz: target/c/compare
 	@$(RUN) target/c/compare 0 $(SEED)
+
+# Small wrong variants of the independent implementation and of the host program: the comparison and the host's tests have to catch them all. Outside the gate, since it takes long.
+mutants:
+	@status=0; for list in reference-mutants host-mutants; do $(MAKE) --no-print-directory $$list || status=1; done; exit $$status
+
+reference-mutants: $(LIBRARY) | tools
+	@tests/mutants.sh tests/mutants.txt "$(DRIVER) $(REFERENCE)" "$(COMPILER) $(WARNINGS) -O2" $(LIBRARY) "$(RUN)"
+
+host-mutants: $(LIBRARY) | tools
+	@RUN="$(RUN)" tests/mutants.sh host/mutants.txt "$(wildcard host/*.c)" "$(COMPILER) $(WARNINGS) -O2 -Iinclude" $(LIBRARY) host/test.sh
 
 # Time of the library over that of the independent implementation.
 bench: target/c/bench
