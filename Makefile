@@ -22,7 +22,7 @@ endif
 WARNINGS = -std=c99 -Wall -Wextra -pedantic
 LIBRARY = target/staticlib/libwizqamul.a
 REFERENCE = $(wildcard tests/reference_*.c)
-DRIVER = tests/compare.c tests/compare_records.c tests/compare_books.c tests/samples.c tests/lending.c tests/inputs.c
+DRIVER = $(wildcard tests/compare*.c tests/input*.c) tests/classes.c tests/lending.c tests/samples.c
 HEADERS = $(wildcard include/*.h tests/*.h host/*.h)
 RATTLE = crates.txt $(wildcard crates/*/src/*.rt)
 

@@ -14,7 +14,7 @@ enum {
     SAVE_ROOM = 200000
 };
 
-/* A small generator of random numbers with a fixed course. */
+/* A small generator of random numbers with a course that its seed fixes. */
 struct dice { uint64_t state; };
 
 uint64_t roll(struct dice *dice);
@@ -47,8 +47,13 @@ void make_day(struct dice *dice, uint8_t *date);
 void make_article(struct dice *dice, uint8_t *article_and_qualifier);
 void make_line_key(struct dice *dice, size_t variety, uint8_t *key);
 void make_slip_part(struct dice *dice, size_t variety, uint8_t *date_number_position);
+void put_random_digits(struct dice *dice, uint8_t *to, size_t width);
+void put_capitals(struct dice *dice, uint8_t *to, size_t width);
+uint8_t allowed_byte(struct dice *dice, int order);
+uint8_t odd_byte(struct dice *dice, uint8_t byte);
 void put_digits(uint8_t *to, size_t width, size_t number);
 void put_little(uint8_t *to, size_t width, uint64_t number);
+size_t get_little(const uint8_t *from, size_t width);
 
 /* Fixed parts. */
 void make_fixed(struct dice *dice, struct sheet *sheet, enum shape shape,
@@ -72,6 +77,7 @@ void stock_shelf(struct dice *dice, struct shelf *shelf, size_t lines, size_t sl
                  size_t variety);
 void stock_unique(struct dice *dice, struct shelf *shelf, size_t lines, size_t slips);
 void unique_line_key(uint8_t *key, size_t number);
+void unique_slip_key(uint8_t *key, size_t number);
 size_t make_save(struct dice *dice, uint8_t *saved, size_t lines, size_t slips,
                  size_t copies);
 

@@ -18,10 +18,12 @@
 
 enum {
     MOST_PIECES = 10, MOST_VALUES = 7, SIDES = 2, GUARD = 64, SLACK = 16,
-    DESK_WORDS = 1 << 16, MOST_TABLE = 400, MOST_SHOWN = 4096
+    DESK_WORDS = 1 << 19, MOST_SHOWN = 4096
 };
 
 struct tally tally;
+
+const size_t part_widths[KEY_PARTS] = {10, 2, 10, 2, 10, 13, 2};
 
 const char *const call_names[CALL_COUNT] = {
     "check", "write", "book", "line", "save", "load"
@@ -285,6 +287,7 @@ static uint64_t run_both(struct lending *lending)
     if (answer >= ANSWER_COUNT)
         fail(lending, outcomes, "no such answer");
     tally.seen[lending->call][answer]++;
+    tally.place = outcomes[0].values[1];
     return answer;
 }
 
@@ -350,20 +353,28 @@ uint64_t both_book(const uint8_t *record, size_t length, struct shelf *shelf)
     return answer;
 }
 
-uint64_t both_line(const uint8_t *const parts[7], const size_t lengths[7],
+uint64_t both_line(const uint8_t *const parts[KEY_PARTS], const size_t lengths[KEY_PARTS],
                    struct shelf *shelf)
 {
-    static const char *const names[7] = {
+    static const char *const names[KEY_PARTS] = {
         "school", "school qualifier", "supplier", "supplier qualifier", "reference",
         "article", "article qualifier"
     };
     struct lending lending = lend(LINE);
-    for (size_t i = 0; i < 7; i++)
+    for (size_t i = 0; i < KEY_PARTS; i++)
         add_piece(&lending, names[i], parts[i], lengths[i], 1);
     add_shelf(&lending, shelf);
     uint64_t answer = run_both(&lending);
     insist(is_unchanged(&lending, 0), "a call by key changes nothing");
     return answer;
+}
+
+uint64_t ask_line(const uint8_t *key, struct shelf *shelf)
+{
+    const uint8_t *parts[KEY_PARTS];
+    for (size_t i = 0; i < KEY_PARTS; key += part_widths[i++])
+        parts[i] = key;
+    return both_line(parts, part_widths, shelf);
 }
 
 uint64_t both_save(struct shelf *shelf, uint8_t *out, size_t out_length)

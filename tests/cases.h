@@ -1,0 +1,22 @@
+/* One round of cases, by call; and what the files of cases share. */
+#ifndef CASES_H
+#define CASES_H
+
+#include "classes.h"
+#include "lending.h"
+
+void compare_checks(struct dice *dice);
+void compare_writes(struct dice *dice);
+void compare_bookings(struct dice *dice);
+void compare_saves(struct dice *dice);
+
+/* Few cases each, of large books and far numbers. */
+void compare_far_records(struct dice *dice);
+void compare_far_books(struct dice *dice);
+void compare_far_saves(struct dice *dice);
+
+/* compare_save.c: a save of any sound book, loaded again, gives it back where its keys
+   allow. */
+void save_and_load(struct dice *dice, struct shelf *shelf, int by_bookings);
+
+#endif
