@@ -5,7 +5,7 @@
 
 enum {
     MOST_LINES = 512, MOST_SLIPS = 1024, FULL_SAVE = WQ_SAVE_LENGTH(MOST_LINES, MOST_SLIPS),
-    LOW_BYTE = 256, MISSING = 12, OVER = 8
+    LOW_BYTE = 256, LOW_BITS = 8, TWO_BYTES_BITS = 16, MISSING = 12, OVER = 8
 };
 
 static const uint64_t two_32 = (uint64_t)1 << 32;
@@ -74,23 +74,37 @@ static void find_far_line(struct dice *dice, struct shelf *shelf, size_t index)
     ask_line(key, shelf);
 }
 
+/* 18 by the copies of a stored slip, which are the record's in their low byte or modulo
+   10,000 alone. */
+static void repeat_with_copies(struct dice *dice, struct shelf *shelf, size_t index,
+                               const uint8_t *key)
+{
+    uint8_t slip[IN_SLIP], *stored = shelf->slips + index * IN_SLIP;
+    memcpy(slip, stored, IN_SLIP);
+    size_t copies = get_little(slip + 48, 2);
+    for (size_t bit = LOW_BITS; bit < TWO_BYTES_BITS; bit++) {
+        put_little(stored + 48, 2, copies ^ (size_t)1 << bit);
+        expect(COPIES_SAME_LOW_BYTE, 1,
+               book_one(dice, shelf, GOODS_SHAPE, key, copies, slip), 18);
+    }
+    put_little(stored + 48, 2, copies + 10000 * between(dice, 1, 5));
+    expect(COPIES_SAME_MODULO_10000, 1,
+           book_one(dice, shelf, GOODS_SHAPE, key, copies, slip), 18);
+    memcpy(stored, slip, IN_SLIP);
+}
+
 /* 17 and 18 by a slip far behind, by its line and by its copies. */
 static void repeat_slip(struct dice *dice, struct shelf *shelf, size_t index)
 {
-    uint8_t slip[IN_SLIP], key[IN_KEY], *stored = shelf->slips + index * IN_SLIP;
-    memcpy(slip, stored, IN_SLIP);
+    uint8_t slip[IN_SLIP], key[IN_KEY];
+    memcpy(slip, shelf->slips + index * IN_SLIP, IN_SLIP);
     size_t line = get_little(slip + 46, 2), copies = get_little(slip + 48, 2);
     memcpy(key, shelf->lines + line * IN_LINE, IN_KEY);
     expect(SLIP_AGAIN_FROM_64, index >= 64,
            book_one(dice, shelf, GOODS_SHAPE, key, copies, slip), 17);
     came_up(SLIP_AGAIN_ON_LINE_FROM_256, line >= 256);
-    size_t other = copies > LOW_BYTE ? copies - LOW_BYTE : copies + LOW_BYTE;
-    expect(COPIES_SAME_LOW_BYTE, 1, book_one(dice, shelf, GOODS_SHAPE, key, other, slip), 18);
+    repeat_with_copies(dice, shelf, index, key);
     came_up(SLIP_DIFFERS_FROM_64, index >= 64);
-    put_little(stored + 48, 2, copies + 10000 * between(dice, 1, 5));
-    expect(COPIES_SAME_MODULO_10000, 1,
-           book_one(dice, shelf, GOODS_SHAPE, key, copies, slip), 18);
-    put_little(stored + 48, 2, copies);
     line = line >= LOW_BYTE ? line - LOW_BYTE : line + LOW_BYTE;
     if (line >= shelf->used[0])
         return;
@@ -99,23 +113,21 @@ static void repeat_slip(struct dice *dice, struct shelf *shelf, size_t index)
            book_one(dice, shelf, GOODS_SHAPE, key, copies, slip), 18);
 }
 
-/* A book of many lines and slips, asked and booked at its far entries. */
-static void find_far(struct dice *dice)
+/* A book of so many lines and slips, asked and booked at its far entries. */
+static void find_far(struct dice *dice, size_t lines, size_t slips)
 {
+    static const size_t indexes[] = {63, 64, 65, 100, 127, 128, 200, 254, 255, 256, 257, 0, 0};
     static struct shelf shelf;
     uint8_t key[IN_KEY];
     make_shelf(dice, &shelf, MOST_LINES, MOST_SLIPS);
-    stock_unique(dice, &shelf, between(dice, 300, 470), between(dice, 600, 950));
-    for (size_t i = 0; i < 12; i++) {
-        size_t used = shelf.used[0];
+    stock_unique(dice, &shelf, lines, slips);
+    for (size_t i = 0; i < sizeof indexes / sizeof indexes[0]; i++) {
+        size_t used = shelf.used[0], index = indexes[i];
         unique_line_key(key, MOST_LINES + i);
         expect(ORDER_AS_256_TO_489, is_within(used, 256, 489),
                book_one(dice, &shelf, ORDER_SHAPE, key, 7, NULL), 0);
-        find_far_line(dice, &shelf, between(dice, 64, 255));
-        find_far_line(dice, &shelf, between(dice, 256, used));
-        repeat_slip(dice, &shelf, below(dice, 64));
-        repeat_slip(dice, &shelf, between(dice, 64, 255));
-        repeat_slip(dice, &shelf, between(dice, 256, shelf.used[1] - 1));
+        find_far_line(dice, &shelf, index > 0 && index < lines ? index : between(dice, 128, used));
+        repeat_slip(dice, &shelf, index > 0 ? index : between(dice, 258, shelf.used[1] - 1));
     }
     save_and_load(dice, &shelf, 1);
 }
@@ -157,6 +169,17 @@ static void break_far_lines(struct dice *dice)
     }
 }
 
+/* A slip of a line that its low byte would take for a used one. */
+static void break_line_of_slip(struct dice *dice, struct shelf *shelf, uint8_t *slip)
+{
+    size_t line = get_little(slip + 46, 2);
+    for (size_t bit = LOW_BITS; bit < TWO_BYTES_BITS; bit++) {
+        put_little(slip + 46, 2, line ^ (size_t)1 << bit);
+        refuse_book(dice, shelf, LINE_OF_SLIP_FAR);
+    }
+    put_little(slip + 46, 2, line);
+}
+
 /* A far slip of a line that is not used: the next one, and such as are used ones by their
    low byte. */
 static void break_far_slips(struct dice *dice)
@@ -173,13 +196,11 @@ static void break_far_slips(struct dice *dice)
         put_little(slip + 46, 2, lines);
         if (indexes[i] < used)
             refuse_book(dice, &shelf, UNSOUND_SLIP_FROM_7);
-        put_little(slip + 46, 2, LOW_BYTE * between(dice, 1, 255) + below(dice, lines));
-        if (indexes[i] < used)
-            refuse_book(dice, &shelf, LINE_OF_SLIP_FAR);
         else
             insist(ask_line(shelf.lines, &shelf) == 0, "a slip that is not used is not judged");
         memcpy(slip, right, IN_SLIP);
     }
+    break_line_of_slip(dice, &shelf, shelf.slips + below(dice, used) * IN_SLIP);
 }
 
 /* Slips where no line is used, and used counts that only their low bytes make sound. */
@@ -206,7 +227,8 @@ void compare_far_books(struct dice *dice)
     fill_rooms(dice, MOST_LINES, MOST_SLIPS);
     fill_rooms(dice, between(dice, 61, 199), between(dice, 61, 199));
     fill_rooms(dice, between(dice, 201, 511), between(dice, 201, 1023));
-    find_far(dice);
+    find_far(dice, 250, between(dice, 300, 900));
+    find_far(dice, between(dice, 300, 470), between(dice, 600, 950));
     break_far_lines(dice);
     break_far_slips(dice);
     break_counts(dice);

@@ -66,7 +66,7 @@ static void break_groups_last(struct dice *dice)
 static void write_far_numbers(struct dice *dice)
 {
     static const enum class classes[] = {ID_OVER_2_32, PLACE_OVER_2_32, LENGTH_OVER_2_32};
-    const uint64_t steps[] = {two_32, two_32, two_32 * 5, two_32 << 16, (uint64_t)1 << 63};
+    const uint64_t steps[] = {two_32, two_32, two_32 * 5, two_32 << 16, two_32 << 31};
     struct sheet sheet;
     make_sheet(dice, &sheet, (enum shape)below(dice, SHAPES), 0);
     for (size_t i = 0; i < 4; i++)
@@ -81,7 +81,7 @@ static void write_far_numbers(struct dice *dice)
         sheet.table[i] = right;
     }
     for (size_t i = 0; i < 5; i++) {
-        sheet.count = two_32 + i;
+        sheet.count = steps[i] + i;
         expect(FIELDS_OVER_2_32, sheet.count >= two_32, write_all(&sheet, 4, IN_LONGEST), 8);
     }
 }

@@ -4,7 +4,7 @@
 #include <string.h>
 
 enum {
-    MOST_LINES = 512, MOST_SLIPS = 1024, MOST_COPIES = 9999, LOW_BYTE = 256, TWO_BYTES = 65536,
+    MOST_LINES = 512, MOST_SLIPS = 1024, MOST_COPIES = 9999, LOW_BITS = 8, TWO_BYTES = 65536,
     FAR_SAVE_ROOM = (TWO_BYTES + 2000) * IN_SAVED_LINE
 };
 
@@ -74,10 +74,11 @@ static void load_far_faults(struct dice *dice)
     expect(SAVE_OVER_600_LINES, lines > 600, both_load(saved, length, largest_shelf(dice)), 23);
     came_up(SAVE_OVER_1100_SLIPS, slips > 1100);
     for (size_t i = 0; i < sizeof line_faults / sizeof line_faults[0]; i++)
-        load_faulty(dice, length, saved_line(between(dice, 601, lines - 1)), &line_faults[i],
-                    FAULT_PAST_LINE_600);
+        load_faulty(dice, length, saved_line(i % 3 ? between(dice, 601, lines - 1) : lines - 1),
+                    &line_faults[i], FAULT_PAST_LINE_600);
     for (size_t i = 0; i < sizeof slip_faults / sizeof slip_faults[0]; i++)
-        load_faulty(dice, length, saved_slip(lines, between(dice, 1025, slips - 1)),
+        load_faulty(dice, length,
+                    saved_slip(lines, i % 3 ? between(dice, 1025, slips - 1) : slips - 1),
                     &slip_faults[i], FAULT_PAST_SLIP_1024);
 }
 
@@ -173,18 +174,31 @@ static void load_past_two_bytes(struct dice *dice)
            both_load(saved, length, largest_shelf(dice)), 22);
 }
 
-/* Slips without lines, and slips of lines that only their low byte names. */
-static void load_lost_slips(struct dice *dice)
+/* Slips of lines that their low byte would take for one that is there. */
+static void load_far_lines_of_slips(struct dice *dice)
+{
+    size_t lines = between(dice, 1, 200), slips = between(dice, 1, 20);
+    size_t length = make_save(dice, saved, lines, slips, 0);
+    for (size_t bit = LOW_BITS; bit < 2 * LOW_BITS; bit++) {
+        uint8_t *slip = saved_slip(lines, below(dice, slips));
+        size_t line = get_little(slip + 47, 2);
+        put_little(slip + 47, 2, line ^ (size_t)1 << bit);
+        expect(SAVED_LINE_OF_SLIP_FAR, line < lines,
+               both_load(saved, length, largest_shelf(dice)), 22);
+        put_little(slip + 47, 2, line);
+    }
+}
+
+/* Slips without lines; also with a school that is its own supplier, so that no slip can be
+   told from a line by its parties. */
+static void load_without_lines(struct dice *dice)
 {
     static const size_t slips[] = {1, 2, 7, 64, 1100};
     for (size_t i = 0; i < sizeof slips / sizeof slips[0]; i++) {
-        size_t length = make_save(dice, saved, 3, slips[i], 0);
-        uint8_t *slip = saved_slip(3, below(dice, slips[i]));
-        put_little(slip + 47, 2, LOW_BYTE * between(dice, 1, 255) + below(dice, 3));
-        expect(SAVED_LINE_OF_SLIP_FAR, get_little(slip + 47, 2) >= LOW_BYTE,
-               both_load(saved, length, largest_shelf(dice)), 22);
-        length = make_save(dice, saved, 1, slips[i], 0);
+        size_t length = make_save(dice, saved, 1, slips[i], 0);
         put_little(saved + length - 4, 2, 0);
+        for (size_t j = 0; j < slips[i] && i % 2 == 0; j++)
+            memcpy(saved_slip(1, j) + 1, saved_slip(1, j) + 1 + IN_PARTY, IN_PARTY);
         expect(SAVED_SLIPS_WITHOUT_LINES, 1,
                both_load(saved_line(1), length - IN_SAVED_LINE, largest_shelf(dice)), 22);
     }
@@ -210,6 +224,7 @@ void compare_far_saves(struct dice *dice)
     load_mixed_sums(dice);
     load_full(dice);
     load_past_two_bytes(dice);
-    load_lost_slips(dice);
+    load_far_lines_of_slips(dice);
+    load_without_lines(dice);
     save_into_large(dice);
 }
