@@ -15,6 +15,9 @@ void compare_far_records(struct dice *dice);
 void compare_far_books(struct dice *dice);
 void compare_far_saves(struct dice *dice);
 
+/* compare_book.c: the figures of a line by its key of 49 bytes. */
+uint64_t ask_line(const uint8_t *key, struct shelf *shelf);
+
 /* compare_save.c: a save of any sound book, loaded again, gives it back where its keys
    allow. */
 void save_and_load(struct dice *dice, struct shelf *shelf, int by_bookings);

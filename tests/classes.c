@@ -38,6 +38,7 @@ static const char *const words[CLASS_COUNT] = {
     [SLIPS_REPEATED_PAST_1024] = "a slip's key repeated past slip 1,024 of a save",
     [SUM_OVER_2_24] = "a sum over 2^24 in a save",
     [SUM_OVER_LIMIT_FROM_LINE_3] = "a sum over the limit on line 3 or later of a save",
+    [SUMS_256_LINES_APART] = "sums of two lines 256 apart, over the limit together",
     [SAVED_SLIPS_WITHOUT_LINES] = "slips in a save without lines",
     [SAVED_LINE_OF_SLIP_FAR] = "a saved slip of a line far past the lines",
     [SAVED_SLIP_OF_LINE_FROM_256] = "a saved slip of the line at index 256 or more",

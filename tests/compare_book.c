@@ -5,6 +5,17 @@
 
 enum { HISTORY = 32, WIDEST = 13, LONGER = 256, LONGEST_FIELD = WIDEST + LONGER };
 
+/* Widths of the seven fields of a line's key. */
+static const size_t part_widths[KEY_PARTS] = {10, 2, 10, 2, 10, 13, 2};
+
+uint64_t ask_line(const uint8_t *key, struct shelf *shelf)
+{
+    const uint8_t *parts[KEY_PARTS];
+    for (size_t i = 0; i < KEY_PARTS; key += part_widths[i++])
+        parts[i] = key;
+    return both_line(parts, part_widths, shelf);
+}
+
 /* The key of a line that is on the shelf, or of one that may be. */
 static void pick_key(struct dice *dice, const struct shelf *shelf, size_t variety,
                      uint8_t *key)

@@ -60,10 +60,10 @@ static void load_faulty(struct dice *dice, size_t length, uint8_t *entry,
                         const struct fault *fault, enum class class)
 {
     uint8_t right[IN_SAVED_LINE];
-    memcpy(right, entry, IN_SAVED_SLIP);
+    memcpy(right, entry, IN_SAVED_LINE);
     memcpy(entry + fault->place, fault->bytes, fault->width);
     expect(class, 1, both_load(saved, length, largest_shelf(dice)), 22);
-    memcpy(entry, right, IN_SAVED_SLIP);
+    memcpy(entry, right, IN_SAVED_LINE);
 }
 
 /* A valid save of more entries than any room takes is 23; with one fault far behind 22. */
@@ -80,6 +80,7 @@ static void load_far_faults(struct dice *dice)
         load_faulty(dice, length,
                     saved_slip(lines, i % 3 ? between(dice, 1025, slips - 1) : slips - 1),
                     &slip_faults[i], FAULT_PAST_SLIP_1024);
+    insist(both_load(saved, length, largest_shelf(dice)) == 23, "without its faults it is valid");
 }
 
 /* A key that stands again far behind, the first of the two near or far. */
@@ -130,6 +131,17 @@ static void load_sums(struct dice *dice)
     size_t length = make_full_line(dice, 5, 1700, MOST_COPIES);
     expect(SUM_OVER_2_24, 1700 * MOST_COPIES > 1 << 24,
            both_load(saved, length, largest_shelf(dice)), 22);
+}
+
+/* Two lines that their low byte does not tell apart, over the limit together alone. */
+static void load_two_sums(struct dice *dice)
+{
+    size_t line = below(dice, 200), far = line + 256, lines = far + 1;
+    size_t length = make_save(dice, saved, lines, MOST_SLIPS, MOST_COPIES);
+    for (size_t i = 0; i < MOST_SLIPS; i++)
+        put_little(saved_slip(lines, i) + 47, 2, i % 2 ? far : line);
+    expect(SUMS_256_LINES_APART, MOST_SLIPS * MOST_COPIES > 9999999,
+           both_load(saved, length, largest_shelf(dice)), 0);
 }
 
 /* Sums at the limit with a slip of another line behind, also where no room takes them. */
@@ -221,6 +233,7 @@ void compare_far_saves(struct dice *dice)
     load_far_faults(dice);
     load_far_repeats(dice);
     load_sums(dice);
+    load_two_sums(dice);
     load_mixed_sums(dice);
     load_full(dice);
     load_past_two_bytes(dice);

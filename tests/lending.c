@@ -23,8 +23,6 @@ enum {
 
 struct tally tally;
 
-const size_t part_widths[KEY_PARTS] = {10, 2, 10, 2, 10, 13, 2};
-
 const char *const call_names[CALL_COUNT] = {
     "check", "write", "book", "line", "save", "load"
 };
@@ -47,14 +45,18 @@ struct outcome { uint64_t values[MOST_VALUES]; };
 /* Both sides have the same layout. */
 static size_t desk_words[SIDES][DESK_WORDS];
 
-/* What stands between the pieces: a line and a slip that would count, fields, digits. It
-   changes from call to call and differs between the sides, so that reading it shows. */
+/* What stands between the pieces: a line and a slip that would count, fields, digits, the
+   rest of a kind that was cut. It changes from call to call and differs between the sides,
+   so that reading it shows. */
 static const char guards[][GUARD + SLACK + 1] = {
     "43210     VD24000     VDA-17      9783442756841EN\1\0\0\0\0\0\0" "************************",
     "24000     VD43210     VD2024022670012345  0001\0\0\1\0" "000000000000000000000000000000",
     "*9999*9999*9999*9999*9999*9999*9999*9999*9999*9999*9999*9999*9999*9999*9999*9999",
     "00000000000000000000000000000000000000000000000000000000000000000000000000000000",
     "                                                                                ",
+    "10110110110110110110110110110110110110110110110110110110110110110110110110110110",
+    "01010101010101010101010101010101010101010101010101010101010101010101010101010101",
+    "B101L101M101B101L101M101B101L101M101B101L101M101B101L101M101B101L101M101B101L101",
     "\0"
 };
 
@@ -367,14 +369,6 @@ uint64_t both_line(const uint8_t *const parts[KEY_PARTS], const size_t lengths[K
     uint64_t answer = run_both(&lending);
     insist(is_unchanged(&lending, 0), "a call by key changes nothing");
     return answer;
-}
-
-uint64_t ask_line(const uint8_t *key, struct shelf *shelf)
-{
-    const uint8_t *parts[KEY_PARTS];
-    for (size_t i = 0; i < KEY_PARTS; key += part_widths[i++])
-        parts[i] = key;
-    return both_line(parts, part_widths, shelf);
 }
 
 uint64_t both_save(struct shelf *shelf, uint8_t *out, size_t out_length)

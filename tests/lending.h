@@ -9,9 +9,6 @@ enum call { CHECK, WRITE, BOOK, LINE, SAVE, LOAD, CALL_COUNT };
 
 enum { ANSWER_COUNT = 24, KEY_PARTS = 7, MOST_TABLE = 66000 };
 
-/* Widths of the seven fields of a line's key. */
-extern const size_t part_widths[KEY_PARTS];
-
 /* The calls so far, how often each answer of each call was seen, where we are (the
    round's seed and the number of the call in it), and the place that the last call gave. */
 struct tally {
@@ -30,8 +27,6 @@ uint64_t both_write(const struct sheet *sheet, size_t fixed_length, size_t table
 uint64_t both_book(const uint8_t *record, size_t length, struct shelf *shelf);
 uint64_t both_line(const uint8_t *const parts[KEY_PARTS], const size_t lengths[KEY_PARTS],
                    struct shelf *shelf);
-/* The same by a key of 49 bytes. */
-uint64_t ask_line(const uint8_t *key, struct shelf *shelf);
 uint64_t both_save(struct shelf *shelf, uint8_t *out, size_t out_length);
 uint64_t both_load(const uint8_t *saved, size_t length, struct shelf *shelf);
 
