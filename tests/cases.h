@@ -18,6 +18,11 @@ void compare_far_saves(struct dice *dice);
 /* compare_book.c: the figures of a line by its key of 49 bytes. */
 uint64_t ask_line(const uint8_t *key, struct shelf *shelf);
 
+/* compare_book.c: books a record of this shape for this key; where a slip is given, as that
+   slip. */
+uint64_t book_one(struct dice *dice, struct shelf *shelf, enum shape shape,
+                  const uint8_t *key, size_t copies, const uint8_t *slip);
+
 /* compare_save.c: a save of any sound book, loaded again, gives it back where its keys
    allow. */
 void save_and_load(struct dice *dice, struct shelf *shelf, int by_bookings);

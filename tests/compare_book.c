@@ -16,6 +16,17 @@ uint64_t ask_line(const uint8_t *key, struct shelf *shelf)
     return both_line(parts, part_widths, shelf);
 }
 
+uint64_t book_one(struct dice *dice, struct shelf *shelf, enum shape shape,
+                  const uint8_t *key, size_t copies, const uint8_t *slip)
+{
+    struct sheet sheet;
+    uint8_t record[RECORD_ROOM];
+    make_fixed(dice, &sheet, shape, key, copies);
+    if (slip != NULL)
+        memcpy(sheet.fixed + 28, slip + 24, 22);
+    return both_book(record, assemble(&sheet, record), shelf);
+}
+
 /* The key of a line that is on the shelf, or of one that may be. */
 static void pick_key(struct dice *dice, const struct shelf *shelf, size_t variety,
                      uint8_t *key)
@@ -145,6 +156,28 @@ static void book_at_limit(struct dice *dice)
             ask_line(line, &shelf);
             both_book(record, length, &shelf);
         }
+}
+
+/* A stored key that differs from the record's in one byte, whichever, is another key. */
+static void book_near_keys(struct dice *dice)
+{
+    static struct shelf sound, shelf;
+    make_shelf(dice, &sound, 3, 3);
+    stock_unique(dice, &sound, 1, 1);
+    size_t copies = get_little(sound.slips + 48, 2);
+    for (size_t i = 0; i < IN_KEY + IN_SLIP_KEY; i++) {
+        int of_line = i < IN_KEY;
+        shelf = sound;
+        *(of_line ? shelf.lines + i : shelf.slips + i - IN_KEY)
+            ^= (uint8_t)(1u << below(dice, 8));
+        insist(book_one(dice, &shelf, GOODS_SHAPE, sound.lines, copies, sound.slips)
+               == (of_line ? 18u : 0u), "every byte of a key counts for a delivery");
+        insist(book_one(dice, &shelf, REPORT_SHAPE, sound.lines, 0, NULL)
+               == (of_line ? 16u : 0u), "every byte of a key counts for a report");
+        insist(book_one(dice, &shelf, ORDER_SHAPE, sound.lines, 1, NULL)
+               == (of_line ? 0u : 14u), "every byte of a key counts for an order");
+        came_up(of_line ? LINE_KEYS_ONE_BYTE_APART : SLIP_KEYS_ONE_BYTE_APART, 1);
+    }
 }
 
 /* Every call on one book, with a record that is valid or not. */
@@ -298,6 +331,7 @@ void compare_bookings(struct dice *dice)
         book_small(dice);
     book_unreadable(dice);
     book_at_limit(dice);
+    book_near_keys(dice);
     break_entries(dice);
     break_sizes(dice);
     for (size_t i = 0; i < 5; i++)

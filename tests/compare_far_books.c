@@ -15,18 +15,6 @@ static int is_within(size_t number, size_t least, size_t most)
     return number >= least && number <= most;
 }
 
-/* Books a record of this shape for this key; where a slip is given, as that slip. */
-static uint64_t book_one(struct dice *dice, struct shelf *shelf, enum shape shape,
-                         const uint8_t *key, size_t copies, const uint8_t *slip)
-{
-    struct sheet sheet;
-    uint8_t record[RECORD_ROOM];
-    make_fixed(dice, &sheet, shape, key, copies);
-    if (slip != NULL)
-        memcpy(sheet.fixed + 28, slip + 24, 22);
-    return both_book(record, assemble(&sheet, record), shelf);
-}
-
 /* A delivery under a slip key that the book does not have. */
 static uint64_t deliver_new(struct dice *dice, struct shelf *shelf, const uint8_t *key,
                             size_t copies)
