@@ -101,6 +101,15 @@ static void repeat_slip(struct dice *dice, struct shelf *shelf, size_t index)
            book_one(dice, shelf, GOODS_SHAPE, key, copies, slip), 18);
 }
 
+/* The first slip of a line that one byte cannot name, or 0. */
+static size_t slip_of_far_line(const struct shelf *shelf)
+{
+    for (size_t i = 0; i < shelf->used[1]; i++)
+        if (get_little(shelf->slips + i * IN_SLIP + 46, 2) >= LOW_BYTE)
+            return i;
+    return 0;
+}
+
 /* A book of so many lines and slips, asked and booked at its far entries. */
 static void find_far(struct dice *dice, size_t lines, size_t slips)
 {
@@ -117,6 +126,7 @@ static void find_far(struct dice *dice, size_t lines, size_t slips)
         find_far_line(dice, &shelf, index > 0 && index < lines ? index : between(dice, 128, used));
         repeat_slip(dice, &shelf, index > 0 ? index : between(dice, 258, shelf.used[1] - 1));
     }
+    repeat_slip(dice, &shelf, slip_of_far_line(&shelf));
     save_and_load(dice, &shelf, 1);
 }
 
