@@ -43,6 +43,7 @@ static const char *const words[CLASS_COUNT] = {
     [SUMS_256_LINES_APART] = "sums of two lines 256 apart, over the limit together",
     [SAVED_SLIPS_WITHOUT_LINES] = "slips in a save without lines",
     [SAVED_LINE_OF_SLIP_FAR] = "a saved slip of a line far past the lines",
+    [SAVED_SLIP_OF_NEXT_LINE] = "a saved slip of the line behind the last",
     [SAVED_SLIP_OF_LINE_FROM_256] = "a saved slip of the line at index 256 or more",
     [GROUP_BROKEN_AT_LAST] = "a group broken at the last field",
     [GROUP_BROKEN_AT_64TH] = "a group broken at the 64th field",

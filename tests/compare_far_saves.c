@@ -201,16 +201,32 @@ static void load_far_lines_of_slips(struct dice *dice)
     }
 }
 
-/* Slips without lines; also with a school that is its own supplier, so that no slip can be
-   told from a line by its parties. */
-static void load_without_lines(struct dice *dice)
+/* A save of one school that is its own supplier, so that no slip can be told from a line by
+   its parties. */
+static size_t make_own_supplier(struct dice *dice, size_t lines, size_t slips)
+{
+    size_t length = make_save(dice, saved, lines, slips, 0);
+    for (size_t i = 0; i < lines; i++)
+        memcpy(saved_line(i) + 1 + IN_PARTY, saved_line(i) + 1, IN_PARTY);
+    for (size_t i = 0; i < slips; i++)
+        memcpy(saved_slip(lines, i) + 1, saved_slip(lines, i) + 1 + IN_PARTY, IN_PARTY);
+    return length;
+}
+
+/* A slip of the line behind the last one, where the first slip stands; and slips without
+   any line. */
+static void load_lost_slips(struct dice *dice)
 {
     static const size_t slips[] = {1, 2, 7, 64, 1100};
     for (size_t i = 0; i < sizeof slips / sizeof slips[0]; i++) {
-        size_t length = make_save(dice, saved, 1, slips[i], 0);
+        size_t lines = between(dice, 1, 9), length = make_own_supplier(dice, lines, slips[i]);
+        uint8_t *slip = saved_slip(lines, below(dice, slips[i]));
+        insist(both_load(saved, length, largest_shelf(dice)) == (slips[i] > MOST_SLIPS ? 23u : 0u),
+               "a school may be its own supplier");
+        put_little(slip + 47, 2, lines);
+        expect(SAVED_SLIP_OF_NEXT_LINE, 1, both_load(saved, length, largest_shelf(dice)), 22);
+        length = make_own_supplier(dice, 1, slips[i]);
         put_little(saved + length - 4, 2, 0);
-        for (size_t j = 0; j < slips[i] && i % 2 == 0; j++)
-            memcpy(saved_slip(1, j) + 1, saved_slip(1, j) + 1 + IN_PARTY, IN_PARTY);
         expect(SAVED_SLIPS_WITHOUT_LINES, 1,
                both_load(saved_line(1), length - IN_SAVED_LINE, largest_shelf(dice)), 22);
     }
@@ -238,6 +254,6 @@ void compare_far_saves(struct dice *dice)
     load_full(dice);
     load_past_two_bytes(dice);
     load_far_lines_of_slips(dice);
-    load_without_lines(dice);
+    load_lost_slips(dice);
     save_into_large(dice);
 }
