@@ -3,6 +3,8 @@
 
 #include <string.h>
 
+enum { SHAPE_FIELDS = 17 };
+
 static uint64_t check(const uint8_t *record, size_t length)
 {
     return both_check(record, length, IN_FULL_TABLE);
@@ -36,6 +38,27 @@ static void damage_record(struct dice *dice, enum shape shape)
         damaged[place] = odd_byte(dice, record[place]);
         check(damaged, length + 1);
     }
+}
+
+/* Each fixed field filled with one byte, from its start or from its second byte on. */
+static void fill_fields(struct dice *dice, enum shape shape)
+{
+    static const size_t widths[][SHAPE_FIELDS] = {
+        [ORDER_SHAPE] = {4, 10, 2, 10, 2, 8, 10, 13, 2, 4, 2},
+        [GOODS_SHAPE] = {4, 10, 2, 10, 2, 8, 10, 4, 10, 13, 2, 4, 15, 2, 3, 8, 1},
+        [ADVANCE_SHAPE] = {4, 10, 2, 10, 2, 8, 10, 4, 10, 13, 2, 4, 15, 2, 3, 8, 1},
+        [CLOSING_SHAPE] = {4, 10, 2, 10, 2, 8, 10, 4, 10, 13, 2, 4, 15, 2, 3, 8, 1},
+        [REPORT_SHAPE] = {4, 10, 2, 10, 2, 10, 10, 13, 2, 3, 1, 8, 4}
+    };
+    static const char bytes[] = " 09AJX";
+    struct sheet sheet;
+    size_t place = 0;
+    for (size_t i = 0; i < SHAPE_FIELDS; place += widths[shape][i++])
+        for (size_t j = 0; j < 2 * (sizeof bytes - 1) && widths[shape][i] > 0; j++) {
+            make_sheet(dice, &sheet, shape, 1);
+            memset(sheet.fixed + place + j % 2, bytes[j / 2], widths[shape][i] - j % 2);
+            check_sheet(&sheet);
+        }
 }
 
 /* Two faults at once show the order of the answers. */
@@ -143,13 +166,13 @@ static void check_barred(struct dice *dice)
         }
 }
 
-/* 1203: every number of one to three digits. */
+/* 1203: every number of one to three digits, and with a zero before them. */
 static void check_days_to_pay(struct dice *dice)
 {
     struct sheet sheet;
-    for (size_t width = 1, bound = 10; width <= 3; width++, bound *= 10)
+    for (size_t width = 1, bound = 10; width <= 4; width++, bound *= width < 4 ? 10 : 1)
         for (size_t days = 0; days < bound; days++) {
-            uint8_t content[3];
+            uint8_t content[4];
             put_digits(content, width, days);
             make_sheet(dice, &sheet, REPORT_SHAPE, 0);
             add_with_group(dice, &sheet, 1203, content, width);
@@ -321,8 +344,10 @@ static void check_small_tables(struct dice *dice)
 
 void compare_checks(struct dice *dice)
 {
-    for (size_t shape = 0; shape < SHAPES; shape++)
+    for (size_t shape = 0; shape < SHAPES; shape++) {
         damage_record(dice, (enum shape)shape);
+        fill_fields(dice, (enum shape)shape);
+    }
     for (size_t i = 0; i < 10; i++)
         damage_twice(dice);
     check_nonsense(dice);
