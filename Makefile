@@ -68,8 +68,9 @@ fuzz: target/c/compare
 mutants:
 	@status=0; for list in reference-mutants host-mutants; do $(MAKE) --no-print-directory $$list || status=1; done; exit $$status
 
+MUTANT_CALLS = 200000
 reference-mutants: $(LIBRARY) | tools
-	@tests/mutants.sh tests/mutants.txt "$(DRIVER) $(REFERENCE)" "$(COMPILER) $(WARNINGS) -O2" $(LIBRARY) "$(RUN)"
+	@tests/mutants.sh tests/mutants.txt "$(DRIVER) $(REFERENCE)" "$(COMPILER) $(WARNINGS) -O2" $(LIBRARY) '$(RUN) "$$1" $(MUTANT_CALLS)'
 
 host-mutants: $(LIBRARY) | tools
 	@RUN="$(RUN)" tests/mutants.sh host/mutants.txt "$(wildcard host/*.c)" "$(COMPILER) $(WARNINGS) -O2 -Iinclude" $(LIBRARY) host/test.sh

@@ -338,7 +338,8 @@ static void check_small_tables(struct dice *dice)
             size_t length = assemble(&sheet, record);
             if (j % 2)
                 record[below(dice, length)] = odd_byte(dice, 'x');
-            both_check(record, j == 7 ? 0 : length, lengths[i]);
+            memset(record + length, 'c', IN_LONGEST);
+            both_check(record, j == 7 ? 0 : j == 6 ? length + IN_LONGEST : length, lengths[i]);
         }
 }
 

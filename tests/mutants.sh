@@ -8,7 +8,8 @@
 #   SOURCES    the program's C files
 #   COMPILE    the compiler with its flags, as called from the top of the tree
 #   LIBRARIES  what is linked behind the objects
-#   JUDGE      a shell command; the path of the built program is put behind it
+#   JUDGE      a shell command; $1 in it is the path of the built program, which is put behind
+#              it where there is no $1
 # A mutant is caught where the judge fails or takes far too long. Where ONLY is set, only the
 # lines that contain it are tried. The last line counts. The exit status is 1 where a mutant
 # passes without a reason, is caught though called equivalent, changes nothing or does not
@@ -21,6 +22,8 @@ trap 'rm -rf "$work"' EXIT
 trap 'exit 2' HUP INT TERM
 program=$work/program
 tab=$(printf '\t')
+# shellcheck disable=SC2016
+case $judge in *'$1'*) ;; *) judge="$judge \"\$1\"" ;; esac
 
 object_of() { echo "$work/objects/$(basename "$1" .c).o"; }
 
@@ -38,7 +41,7 @@ compile_for() {
 link_all() { $compile -o "$program" "$work"/objects/*.o $libraries >"$work/log" 2>&1; }
 
 # Runs the judge on the program that was built, for so many seconds at most.
-passes() { timeout -k 5 "$1" sh -c "$judge \"\$1\"" judge "$program" </dev/null >"$work/log" 2>&1; }
+passes() { timeout -k 5 "$1" sh -c "$judge" judge "$program" </dev/null >"$work/log" 2>&1; }
 
 # Copies the sources with their headers, builds them, and lets the judge see the right program.
 prepare() {
