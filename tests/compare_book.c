@@ -23,7 +23,7 @@ uint64_t book_one(struct dice *dice, struct shelf *shelf, enum shape shape,
     uint8_t record[RECORD_ROOM];
     make_fixed(dice, &sheet, shape, key, copies);
     if (slip != NULL)
-        memcpy(sheet.fixed + 28, slip + 24, 22);
+        memcpy(sheet.fixed + IN_DELIVERY_DATE, slip + IN_DATE, IN_DATE_TO_POSITION);
     return both_book(record, assemble(&sheet, record), shelf);
 }
 
@@ -147,7 +147,7 @@ static void book_at_limit(struct dice *dice)
             make_shelf(dice, &shelf, 3, 4);
             stock_shelf(dice, &shelf, 3, 3, 0);
             shelf.used[1] += (size_t)chance(dice, 3);
-            put_little(shelf.slips + 3 * IN_SLIP + 46, 2, 0);
+            put_little(shelf.slips + 3 * IN_SLIP + IN_LINE_OF_SLIP, 2, 0);
             uint8_t *line = shelf.lines + below(dice, 3) * IN_LINE;
             put_little(line + 52, 4, 9999999 - missing[i]);
             make_fixed(dice, &sheet, GOODS_SHAPE, line, copies[j]);
@@ -164,7 +164,7 @@ static void book_near_keys(struct dice *dice)
     static struct shelf sound, shelf;
     make_shelf(dice, &sound, 3, 3);
     stock_unique(dice, &sound, 1, 1);
-    size_t copies = get_little(sound.slips + 48, 2);
+    size_t copies = get_little(sound.slips + IN_COPIES, 2);
     for (size_t i = 0; i < IN_KEY + IN_SLIP_KEY; i++) {
         int of_line = i < IN_KEY;
         shelf = sound;
@@ -224,8 +224,9 @@ static void break_entries(struct dice *dice)
     for (size_t i = 0; i < 5; i++)
         for (size_t index = 0; index < 7; index++) {
             shelf = sound;
-            put_little(shelf.slips + i * IN_SLIP + 46, 2, index < 5 ? index : index * 256 - 1);
-            put_little(shelf.slips + i * IN_SLIP + 48, 2, roll(dice));
+            put_little(shelf.slips + i * IN_SLIP + IN_LINE_OF_SLIP, 2,
+                       index < 5 ? index : index * 256 - 1);
+            put_little(shelf.slips + i * IN_SLIP + IN_COPIES, 2, roll(dice));
             try_all(dice, &shelf);
         }
 }

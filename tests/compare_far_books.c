@@ -69,13 +69,13 @@ static void repeat_with_copies(struct dice *dice, struct shelf *shelf, size_t in
 {
     uint8_t slip[IN_SLIP], *stored = shelf->slips + index * IN_SLIP;
     memcpy(slip, stored, IN_SLIP);
-    size_t copies = get_little(slip + 48, 2);
+    size_t copies = get_little(slip + IN_COPIES, 2);
     for (size_t bit = LOW_BITS; bit < TWO_BYTES_BITS; bit++) {
-        put_little(stored + 48, 2, copies ^ (size_t)1 << bit);
+        put_little(stored + IN_COPIES, 2, copies ^ (size_t)1 << bit);
         expect(COPIES_SAME_LOW_BYTE, 1,
                book_one(dice, shelf, GOODS_SHAPE, key, copies, slip), 18);
     }
-    put_little(stored + 48, 2, copies + 10000 * between(dice, 1, 5));
+    put_little(stored + IN_COPIES, 2, copies + 10000 * between(dice, 1, 5));
     expect(COPIES_SAME_MODULO_10000, 1,
            book_one(dice, shelf, GOODS_SHAPE, key, copies, slip), 18);
     memcpy(stored, slip, IN_SLIP);
@@ -86,7 +86,7 @@ static void repeat_slip(struct dice *dice, struct shelf *shelf, size_t index)
 {
     uint8_t slip[IN_SLIP], key[IN_KEY];
     memcpy(slip, shelf->slips + index * IN_SLIP, IN_SLIP);
-    size_t line = get_little(slip + 46, 2), copies = get_little(slip + 48, 2);
+    size_t line = get_little(slip + IN_LINE_OF_SLIP, 2), copies = get_little(slip + IN_COPIES, 2);
     memcpy(key, shelf->lines + line * IN_LINE, IN_KEY);
     expect(SLIP_AGAIN_FROM_64, index >= 64,
            book_one(dice, shelf, GOODS_SHAPE, key, copies, slip), 17);
@@ -105,7 +105,7 @@ static void repeat_slip(struct dice *dice, struct shelf *shelf, size_t index)
 static size_t slip_of_far_line(const struct shelf *shelf)
 {
     for (size_t i = 0; i < shelf->used[1]; i++)
-        if (get_little(shelf->slips + i * IN_SLIP + 46, 2) >= LOW_BYTE)
+        if (get_little(shelf->slips + i * IN_SLIP + IN_LINE_OF_SLIP, 2) >= LOW_BYTE)
             return i;
     return 0;
 }
@@ -146,7 +146,8 @@ static void refuse_book(struct dice *dice, struct shelf *shelf, enum class class
 static void break_far_lines(struct dice *dice)
 {
     static const struct { size_t place, width, number; } faults[] = {
-        {49, 2, 0}, {49, 2, 10000}, {51, 1, 3}, {52, 4, 10000000}, {52, 4, 1 << 24}
+        {IN_ORDERED, 2, 0}, {IN_ORDERED, 2, 10000}, {IN_MARK, 1, 3},
+        {IN_ARRIVED, 4, 10000000}, {IN_ARRIVED, 4, 1 << 24}
     };
     static struct shelf shelf;
     make_shelf(dice, &shelf, MOST_LINES, 20);
@@ -170,12 +171,12 @@ static void break_far_lines(struct dice *dice)
 /* A slip of a line that its low byte would take for a used one. */
 static void break_line_of_slip(struct dice *dice, struct shelf *shelf, uint8_t *slip)
 {
-    size_t line = get_little(slip + 46, 2);
+    size_t line = get_little(slip + IN_LINE_OF_SLIP, 2);
     for (size_t bit = LOW_BITS; bit < TWO_BYTES_BITS; bit++) {
-        put_little(slip + 46, 2, line ^ (size_t)1 << bit);
+        put_little(slip + IN_LINE_OF_SLIP, 2, line ^ (size_t)1 << bit);
         refuse_book(dice, shelf, LINE_OF_SLIP_FAR);
     }
-    put_little(slip + 46, 2, line);
+    put_little(slip + IN_LINE_OF_SLIP, 2, line);
 }
 
 /* A far slip of a line that is not used: the next one, and such as are used ones by their
@@ -191,7 +192,7 @@ static void break_far_slips(struct dice *dice)
     for (size_t i = 0; i < sizeof indexes / sizeof indexes[0]; i++) {
         uint8_t *slip = shelf.slips + indexes[i] * IN_SLIP, right[IN_SLIP];
         memcpy(right, slip, IN_SLIP);
-        put_little(slip + 46, 2, lines);
+        put_little(slip + IN_LINE_OF_SLIP, 2, lines);
         if (indexes[i] < used)
             refuse_book(dice, &shelf, UNSOUND_SLIP_FROM_7);
         else

@@ -5,7 +5,8 @@
 
 enum {
     MOST_LINES = 512, MOST_SLIPS = 1024, MOST_COPIES = 9999, LOW_BITS = 8, TWO_BYTES = 65536,
-    FAR_SAVE_ROOM = (TWO_BYTES + 2000) * IN_SAVED_LINE
+    FAR_SAVE_ROOM = (TWO_BYTES + 2000) * IN_SAVED_LINE,
+    SAVED_LINE_OF_SLIP = IN_KIND_BYTE + IN_LINE_OF_SLIP, SAVED_COPIES = IN_KIND_BYTE + IN_COPIES
 };
 
 static uint8_t saved[FAR_SAVE_ROOM];
@@ -37,7 +38,8 @@ static size_t make_mixed_save(struct dice *dice, size_t lines, size_t slips)
         put_digits(saved_line(i) + 1, 6, i);
     for (size_t i = 0; i < slips; i++) {
         uint8_t *slip = saved_slip(lines, i);
-        memcpy(slip + 1 + IN_PARTY, saved_line(get_little(slip + 47, 2)) + 1, IN_PARTY);
+        size_t line = get_little(slip + SAVED_LINE_OF_SLIP, 2);
+        memcpy(slip + 1 + IN_PARTY, saved_line(line) + 1, IN_PARTY);
     }
     return length;
 }
@@ -45,11 +47,13 @@ static size_t make_mixed_save(struct dice *dice, size_t lines, size_t slips)
 /* One fault in an entry: where it stands in the saved line or slip, and the wrong bytes. */
 struct fault { size_t place, width; const char *bytes; };
 
+/* Reference, article, its qualifier, copies and mark of a saved line. */
 static const struct fault line_faults[] = {
     {25, 1, " "}, {34, 1, "\x7f"}, {35, 1, "x"}, {48, 2, "EX"}, {50, 2, "\0\0"},
     {50, 2, "\x10\x27"}, {52, 1, "\3"}
 };
 
+/* Supplier, school, date, slip number, position and copies of a saved slip. */
 static const struct fault slip_faults[] = {
     {1, 1, "3"}, {13, 1, "X"}, {25, 8, "20230229"}, {33, 1, " "}, {42, 1, "\x9f"}, {46, 1, "/"},
     {49, 2, "\0\0"}, {49, 2, "\x10\x27"}
@@ -110,8 +114,8 @@ static size_t make_full_line(struct dice *dice, size_t line, size_t slips, size_
     size_t lines = line + 1 + below(dice, 3);
     size_t length = make_save(dice, saved, lines, slips, MOST_COPIES);
     for (size_t i = 0; i < slips; i++)
-        put_little(saved_slip(lines, i) + 47, 2, line);
-    put_little(saved_slip(lines, slips - 1) + 49, 2, last);
+        put_little(saved_slip(lines, i) + SAVED_LINE_OF_SLIP, 2, line);
+    put_little(saved_slip(lines, slips - 1) + SAVED_COPIES, 2, last);
     return length;
 }
 
@@ -139,7 +143,7 @@ static void load_two_sums(struct dice *dice)
     size_t line = below(dice, 200), far = line + 256, lines = far + 1;
     size_t length = make_save(dice, saved, lines, MOST_SLIPS, MOST_COPIES);
     for (size_t i = 0; i < MOST_SLIPS; i++)
-        put_little(saved_slip(lines, i) + 47, 2, i % 2 ? far : line);
+        put_little(saved_slip(lines, i) + SAVED_LINE_OF_SLIP, 2, i % 2 ? far : line);
     expect(SUMS_256_LINES_APART, MOST_SLIPS * MOST_COPIES > 9999999,
            both_load(saved, length, largest_shelf(dice)), 0);
 }
@@ -150,10 +154,11 @@ static void load_mixed_sums(struct dice *dice)
     for (size_t i = 0; i < 4; i++) {
         size_t slips = i < 2 ? 1002 : 1030, line = below(dice, 4);
         size_t length = make_full_line(dice, line, slips, 1);
-        size_t lines = get_little(saved + length - 4, 2), other = line == 0 ? lines - 1 : 0;
+        size_t lines = get_little(saved + length - IN_SAVED_LINES_COUNT, 2);
+        size_t other = line == 0 ? lines - 1 : 0;
         for (size_t j = 1000; j < slips; j++) {
-            put_little(saved_slip(lines, j) + 49, 2, j > 1000 ? 1 : i % 2 ? 1000 : 999);
-            put_little(saved_slip(lines, j) + 47, 2, j > 1000 ? other : line);
+            put_little(saved_slip(lines, j) + SAVED_COPIES, 2, j > 1000 ? 1 : i % 2 ? 1000 : 999);
+            put_little(saved_slip(lines, j) + SAVED_LINE_OF_SLIP, 2, j > 1000 ? other : line);
         }
         both_load(saved, length, largest_shelf(dice));
     }
@@ -179,10 +184,10 @@ static void load_past_two_bytes(struct dice *dice)
 {
     size_t few = below(dice, 3);
     size_t length = make_save(dice, saved, TWO_BYTES + few, few, 0);
-    expect(SAVED_LINES_MODULO_65536, get_little(saved + length - 4, 2) == few,
+    expect(SAVED_LINES_MODULO_65536, get_little(saved + length - IN_SAVED_LINES_COUNT, 2) == few,
            both_load(saved, length, largest_shelf(dice)), 22);
     length = make_save(dice, saved, 2, TWO_BYTES + few, 0);
-    expect(SAVED_SLIPS_MODULO_65536, get_little(saved + length - 2, 2) == few,
+    expect(SAVED_SLIPS_MODULO_65536, get_little(saved + length - IN_SAVED_SLIPS_COUNT, 2) == few,
            both_load(saved, length, largest_shelf(dice)), 22);
 }
 
@@ -193,11 +198,11 @@ static void load_far_lines_of_slips(struct dice *dice)
     size_t length = make_save(dice, saved, lines, slips, 0);
     for (size_t bit = LOW_BITS; bit < 2 * LOW_BITS; bit++) {
         uint8_t *slip = saved_slip(lines, below(dice, slips));
-        size_t line = get_little(slip + 47, 2);
-        put_little(slip + 47, 2, line ^ (size_t)1 << bit);
+        size_t line = get_little(slip + SAVED_LINE_OF_SLIP, 2);
+        put_little(slip + SAVED_LINE_OF_SLIP, 2, line ^ (size_t)1 << bit);
         expect(SAVED_LINE_OF_SLIP_FAR, line < lines,
                both_load(saved, length, largest_shelf(dice)), 22);
-        put_little(slip + 47, 2, line);
+        put_little(slip + SAVED_LINE_OF_SLIP, 2, line);
     }
 }
 
@@ -223,10 +228,10 @@ static void load_lost_slips(struct dice *dice)
         uint8_t *slip = saved_slip(lines, below(dice, slips[i]));
         insist(both_load(saved, length, largest_shelf(dice)) == (slips[i] > MOST_SLIPS ? 23u : 0u),
                "a school may be its own supplier");
-        put_little(slip + 47, 2, lines);
+        put_little(slip + SAVED_LINE_OF_SLIP, 2, lines);
         expect(SAVED_SLIP_OF_NEXT_LINE, 1, both_load(saved, length, largest_shelf(dice)), 22);
         length = make_own_supplier(dice, 1, slips[i]);
-        put_little(saved + length - 4, 2, 0);
+        put_little(saved + length - IN_SAVED_LINES_COUNT, 2, 0);
         expect(SAVED_SLIPS_WITHOUT_LINES, 1,
                both_load(saved_line(1), length - IN_SAVED_LINE, largest_shelf(dice)), 22);
     }

@@ -34,8 +34,9 @@ void stock_shelf(struct dice *dice, struct shelf *shelf, size_t lines, size_t sl
         memcpy(slip, key + 12, 12);
         memcpy(slip + 12, key, 12);
         make_slip_part(dice, variety == 0 ? 0 : 2, slip + 24);
-        put_little(slip + 46, 2, below(dice, lines));
-        put_little(slip + 48, 2, chance(dice, 5) ? roll(dice) & 0xffff : between(dice, 1, 5));
+        put_little(slip + IN_LINE_OF_SLIP, 2, below(dice, lines));
+        put_little(slip + IN_COPIES, 2,
+                   chance(dice, 5) ? roll(dice) & 0xffff : between(dice, 1, 5));
     }
     shelf->used[0] = lines;
     shelf->used[1] = lines > 0 ? slips : 0;
@@ -56,8 +57,8 @@ void unique_slip_key(uint8_t *key, size_t number)
 static void unique_slip(struct dice *dice, uint8_t *slip, size_t number, size_t line)
 {
     unique_slip_key(slip, number);
-    put_little(slip + 46, 2, line);
-    put_little(slip + 48, 2, between(dice, 1, 9999));
+    put_little(slip + IN_LINE_OF_SLIP, 2, line);
+    put_little(slip + IN_COPIES, 2, between(dice, 1, 9999));
 }
 
 /* A book without repeated keys, each A the sum of its slips, as bookings make it. */
@@ -68,7 +69,7 @@ void stock_unique(struct dice *dice, struct shelf *shelf, size_t lines, size_t s
         size_t line = below(dice, lines);
         uint8_t *slip = shelf->slips + i * IN_SLIP;
         unique_slip(dice, slip, i, line);
-        sums[line] += (uint32_t)get_little(slip + 48, 2);
+        sums[line] += (uint32_t)get_little(slip + IN_COPIES, 2);
     }
     for (size_t i = 0; i < lines; i++) {
         uint8_t *line = shelf->lines + i * IN_LINE;

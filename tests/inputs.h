@@ -8,6 +8,11 @@ enum {
     /* widths of document 01, stated here a second time on purpose */
     IN_PARTY = 12, IN_KEY = 49, IN_LINE = 56, IN_SLIP_KEY = 46, IN_SLIP = 50,
     IN_SAVED_LINE = 53, IN_SAVED_SLIP = 51, IN_SAVED_END = 5,
+    /* where the parts of a line, of a slip and of a delivery's fixed part start; in a save
+       the byte of kind stands before a line or slip */
+    IN_ORDERED = 49, IN_MARK = 51, IN_ARRIVED = 52, IN_LINE_OF_SLIP = 46, IN_COPIES = 48,
+    IN_DATE = 24, IN_DATE_TO_POSITION = 22, IN_DELIVERY_DATE = 28, IN_KIND_BYTE = 1,
+    IN_SAVED_LINES_COUNT = 4, IN_SAVED_SLIPS_COUNT = 2,
     IN_FULL_TABLE = 192, IN_LONGEST = 1024,
     SHEET_FIELDS = 80, SHEET_CONTENTS = 8192, RECORD_ROOM = 9000,
     SHELF_LINES = 514, SHELF_SLIPS = 1026,
