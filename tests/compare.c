@@ -84,6 +84,8 @@ int main(int count, char **words)
     int all_answers = print_tally(), all_classes = print_classes();
     if (!all_answers)
         puts("an answer never came up, or came up where none can be");
+    if (!all_classes)
+        puts("a class of inputs was never generated");
     if (!all_answers || !all_classes)
         return 1;
     printf("%" PRIu64 " calls compared, 0 differences\n", tally.calls);
