@@ -1,9 +1,9 @@
 # Wizqamul. Two commands do everything, and set up what they need:
 #   make book FILE=examples/day.bwa   books the records of a file into an empty book, one line printed for each
 #   make test                         the whole gate; its last line is `N passed, 0 failed`
-# Besides: make lib, make host, make compare, make bench, make fuzz, make clean.
+# Besides: make lib, make host, make compare, make bench, make fuzz, make mutants, make clean.
 
-.PHONY: book test lib host compare desk-compare sanitized header bench fuzz tools clean
+.PHONY: book test lib host compare desk-compare sanitized header bench fuzz mutants reference-mutants host-mutants tools clean
 
 # The library is x86-64 code. On another machine its C programs are built by Debian's cross compiler and run under its emulator.
 ifeq ($(shell uname -m),x86_64)
@@ -11,18 +11,20 @@ COMPILER = gcc
 RUN =
 PACKAGES = gcc libc6-dev
 MACHINE = x86-64, not emulated
+SANITIZERS = address,undefined
 else
 COMPILER = x86_64-linux-gnu-gcc
 EMULATOR = qemu-x86_64
 RUN = $(EMULATOR) -L /usr/x86_64-linux-gnu
 PACKAGES = gcc-x86-64-linux-gnu libc6-dev-amd64-cross qemu-user
 MACHINE = $(shell uname -m), x86-64 emulated
+SANITIZERS = undefined
 endif
 
 WARNINGS = -std=c99 -Wall -Wextra -pedantic
 LIBRARY = target/staticlib/libwizqamul.a
 REFERENCE = $(wildcard tests/reference_*.c)
-DRIVER = tests/compare.c tests/compare_records.c tests/compare_books.c tests/samples.c tests/lending.c tests/inputs.c
+DRIVER = $(wildcard tests/compare*.c tests/input*.c) tests/classes.c tests/lending.c tests/samples.c
 HEADERS = $(wildcard include/*.h tests/*.h host/*.h)
 RATTLE = crates.txt $(wildcard crates/*/src/*.rt)
 
@@ -37,9 +39,9 @@ book: target/bin/desk tools
 # The layout of every file; every proof, every must-fail edit and every program; then the C library against an independent implementation, and the host program. The verdict of the proofs stands last.
 test: tools
 	@rt fmt --check
-	@log=$$(mktemp); trap 'rm -f $$log' EXIT; \
-	rt ci 2>&1 | tee $$log; verdict=$$(tail -n 1 $$log); \
-	case "$$verdict" in *" passed, 0 failed") ;; *) exit 1 ;; esac; \
+	@log=$$(mktemp); trap 'rm -f $$log $$log.status' EXIT; \
+	{ rt ci 2>&1; echo $$? > $$log.status; } | tee $$log; verdict=$$(tail -n 1 $$log); \
+	case "$$(cat $$log.status),$$verdict" in 0,*" passed, 0 failed") ;; *) exit 1 ;; esac; \
 	$(MAKE) --no-print-directory header compare desk-compare sanitized host-test && echo "$$verdict"
 
 lib: $(LIBRARY)
@@ -53,8 +55,8 @@ compare: target/c/compare
 
 # What the desk program must print of its stored day and of the example, by the independent implementation.
 desk-compare: target/c/desk target/bin/desk
-	@$(RUN) target/c/desk < crates/desk/stdin | cmp - crates/desk/stdout
-	@$(RUN) target/bin/desk < examples/day.bwa > target/c/day.out && $(RUN) target/c/desk < examples/day.bwa | cmp - target/c/day.out
+	@$(RUN) target/c/desk < crates/desk/stdin > target/c/stored.out && cmp target/c/stored.out crates/desk/stdout
+	@$(RUN) target/bin/desk < examples/day.bwa > target/c/day.out && $(RUN) target/c/desk < examples/day.bwa > target/c/day.expected && cmp target/c/day.out target/c/day.expected
 	@echo "desk: 2 days compared, 0 differences"
 
 # The comparison for longer, with fresh seeds, until it is stopped.
@@ -62,16 +64,29 @@ SEED ?= 1
 fuzz: target/c/compare
 	@$(RUN) target/c/compare 0 $(SEED)
 
+# Small wrong variants of the independent implementation and of the host program: the comparison and the host's tests have to catch them all. Outside the gate, since it takes long.
+mutants:
+	@status=0; for list in reference-mutants host-mutants; do $(MAKE) --no-print-directory $$list || status=1; done; exit $$status
+
+MUTANT_CALLS = 200000
+reference-mutants: $(LIBRARY) | tools
+	@tests/mutants.sh tests/mutants.txt "$(DRIVER) $(REFERENCE)" "$(COMPILER) $(WARNINGS) -O2" $(LIBRARY) '$(RUN) "$$1" $(MUTANT_CALLS)'
+
+host-mutants: $(LIBRARY) | tools
+	@RUN="$(RUN)" tests/mutants.sh host/mutants.txt "$(wildcard host/*.c)" "$(COMPILER) $(WARNINGS) -O2 -Iinclude" $(LIBRARY) host/test.sh
+
 # Time of the library over that of the independent implementation.
 bench: target/c/bench
 	@echo "machine: $(MACHINE)"
 	@$(RUN) target/c/bench crates/papers/stdin
 
-# A part of the comparison with the C side under AddressSanitizer and UBSan, where the compiler has them.
-SANITIZE = -g -fsanitize=address,undefined -fno-sanitize-recover=undefined
+# A part of the comparison with the C side under AddressSanitizer and UBSan, where the compiler has them; under the emulator UBSan alone, since it has not the memory that the other asks for. The driver's own status decides, and all that it said is shown where it fails.
+SANITIZE = -g -fsanitize=$(SANITIZERS) -fno-sanitize-recover=undefined
+SANITIZED_CALLS = 300000
 sanitized: $(LIBRARY) $(DRIVER) $(REFERENCE) $(HEADERS) | tools target/c
-	@if [ -z "$(RUN)" ] && echo 'int main(void) { return 0; }' | $(COMPILER) -x c $(SANITIZE) -o target/c/probe - 2> /dev/null && target/c/probe; then \
-	$(COMPILER) $(WARNINGS) -O1 $(SANITIZE) -o target/c/compare-sanitized $(DRIVER) $(REFERENCE) $(LIBRARY) && target/c/compare-sanitized 300000 | tail -n 1; \
+	@if echo 'int main(void) { return 0; }' | $(COMPILER) -x c $(SANITIZE) -o target/c/probe - 2> /dev/null && $(RUN) target/c/probe; then \
+	$(COMPILER) $(WARNINGS) -O1 $(SANITIZE) -o target/c/compare-sanitized $(DRIVER) $(REFERENCE) $(LIBRARY) && \
+	{ $(RUN) target/c/compare-sanitized $(SANITIZED_CALLS) > target/c/sanitized.out || { cat target/c/sanitized.out; exit 1; }; } && tail -n 1 target/c/sanitized.out; \
 	else echo "sanitizers: not on this machine"; fi
 
 # The header by itself, as C and, where there is a compiler for it, as C++.

@@ -8,13 +8,18 @@ enum {
     /* widths of document 01, stated here a second time on purpose */
     IN_PARTY = 12, IN_KEY = 49, IN_LINE = 56, IN_SLIP_KEY = 46, IN_SLIP = 50,
     IN_SAVED_LINE = 53, IN_SAVED_SLIP = 51, IN_SAVED_END = 5,
+    /* where the parts of a line, of a slip and of a delivery's fixed part start; in a save
+       the byte of kind stands before a line or slip */
+    IN_ORDERED = 49, IN_MARK = 51, IN_ARRIVED = 52, IN_LINE_OF_SLIP = 46, IN_COPIES = 48,
+    IN_DATE = 24, IN_DATE_TO_POSITION = 22, IN_DELIVERY_DATE = 28, IN_KIND_BYTE = 1,
+    IN_SAVED_LINES_COUNT = 4, IN_SAVED_SLIPS_COUNT = 2,
     IN_FULL_TABLE = 192, IN_LONGEST = 1024,
     SHEET_FIELDS = 80, SHEET_CONTENTS = 8192, RECORD_ROOM = 9000,
     SHELF_LINES = 514, SHELF_SLIPS = 1026,
     SAVE_ROOM = 200000
 };
 
-/* A small generator of random numbers with a fixed course. */
+/* A small generator of random numbers with a course that its seed fixes. */
 struct dice { uint64_t state; };
 
 uint64_t roll(struct dice *dice);
@@ -47,8 +52,13 @@ void make_day(struct dice *dice, uint8_t *date);
 void make_article(struct dice *dice, uint8_t *article_and_qualifier);
 void make_line_key(struct dice *dice, size_t variety, uint8_t *key);
 void make_slip_part(struct dice *dice, size_t variety, uint8_t *date_number_position);
+void put_random_digits(struct dice *dice, uint8_t *to, size_t width);
+void put_capitals(struct dice *dice, uint8_t *to, size_t width);
+uint8_t allowed_byte(struct dice *dice, int order);
+uint8_t odd_byte(struct dice *dice, uint8_t byte);
 void put_digits(uint8_t *to, size_t width, size_t number);
 void put_little(uint8_t *to, size_t width, uint64_t number);
+size_t get_little(const uint8_t *from, size_t width);
 
 /* Fixed parts. */
 void make_fixed(struct dice *dice, struct sheet *sheet, enum shape shape,
@@ -72,6 +82,7 @@ void stock_shelf(struct dice *dice, struct shelf *shelf, size_t lines, size_t sl
                  size_t variety);
 void stock_unique(struct dice *dice, struct shelf *shelf, size_t lines, size_t slips);
 void unique_line_key(uint8_t *key, size_t number);
+void unique_slip_key(uint8_t *key, size_t number);
 size_t make_save(struct dice *dice, uint8_t *saved, size_t lines, size_t slips,
                  size_t copies);
 

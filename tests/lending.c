@@ -18,7 +18,7 @@
 
 enum {
     MOST_PIECES = 10, MOST_VALUES = 7, SIDES = 2, GUARD = 64, SLACK = 16,
-    DESK_WORDS = 1 << 16, MOST_TABLE = 400, MOST_SHOWN = 4096
+    DESK_WORDS = 1 << 19, MOST_SHOWN = 4096
 };
 
 struct tally tally;
@@ -45,14 +45,18 @@ struct outcome { uint64_t values[MOST_VALUES]; };
 /* Both sides have the same layout. */
 static size_t desk_words[SIDES][DESK_WORDS];
 
-/* What stands between the pieces: a line and a slip that would count, fields, digits. It
-   changes from call to call and differs between the sides, so that reading it shows. */
+/* What stands between the pieces: a line and a slip that would count, fields, digits, the
+   rest of a kind that was cut. It changes from call to call and differs between the sides,
+   so that reading it shows. */
 static const char guards[][GUARD + SLACK + 1] = {
     "43210     VD24000     VDA-17      9783442756841EN\1\0\0\0\0\0\0" "************************",
     "24000     VD43210     VD2024022670012345  0001\0\0\1\0" "000000000000000000000000000000",
     "*9999*9999*9999*9999*9999*9999*9999*9999*9999*9999*9999*9999*9999*9999*9999*9999",
     "00000000000000000000000000000000000000000000000000000000000000000000000000000000",
     "                                                                                ",
+    "10110110110110110110110110110110110110110110110110110110110110110110110110110110",
+    "01010101010101010101010101010101010101010101010101010101010101010101010101010101",
+    "B101L101M101B101L101M101B101L101M101B101L101M101B101L101M101B101L101M101B101L101",
     "\0"
 };
 
@@ -285,6 +289,7 @@ static uint64_t run_both(struct lending *lending)
     if (answer >= ANSWER_COUNT)
         fail(lending, outcomes, "no such answer");
     tally.seen[lending->call][answer]++;
+    tally.place = outcomes[0].values[1];
     return answer;
 }
 
@@ -350,15 +355,15 @@ uint64_t both_book(const uint8_t *record, size_t length, struct shelf *shelf)
     return answer;
 }
 
-uint64_t both_line(const uint8_t *const parts[7], const size_t lengths[7],
+uint64_t both_line(const uint8_t *const parts[KEY_PARTS], const size_t lengths[KEY_PARTS],
                    struct shelf *shelf)
 {
-    static const char *const names[7] = {
+    static const char *const names[KEY_PARTS] = {
         "school", "school qualifier", "supplier", "supplier qualifier", "reference",
         "article", "article qualifier"
     };
     struct lending lending = lend(LINE);
-    for (size_t i = 0; i < 7; i++)
+    for (size_t i = 0; i < KEY_PARTS; i++)
         add_piece(&lending, names[i], parts[i], lengths[i], 1);
     add_shelf(&lending, shelf);
     uint64_t answer = run_both(&lending);

@@ -7,12 +7,12 @@
 
 enum call { CHECK, WRITE, BOOK, LINE, SAVE, LOAD, CALL_COUNT };
 
-enum { ANSWER_COUNT = 24 };
+enum { ANSWER_COUNT = 24, KEY_PARTS = 7, MOST_TABLE = 66000 };
 
-/* The calls so far, how often each answer of each call was seen, and where we are: the
-   round's seed and the number of the call in it. */
+/* The calls so far, how often each answer of each call was seen, where we are (the
+   round's seed and the number of the call in it), and the place that the last call gave. */
 struct tally {
-    uint64_t calls, seen[CALL_COUNT][ANSWER_COUNT], seed, call;
+    uint64_t calls, seen[CALL_COUNT][ANSWER_COUNT], seed, call, place;
 };
 
 extern struct tally tally;
@@ -25,7 +25,7 @@ uint64_t both_check(const uint8_t *record, size_t length, size_t table_length);
 uint64_t both_write(const struct sheet *sheet, size_t fixed_length, size_t table_length,
                     size_t contents_length, uint8_t *out, size_t out_length);
 uint64_t both_book(const uint8_t *record, size_t length, struct shelf *shelf);
-uint64_t both_line(const uint8_t *const parts[7], const size_t lengths[7],
+uint64_t both_line(const uint8_t *const parts[KEY_PARTS], const size_t lengths[KEY_PARTS],
                    struct shelf *shelf);
 uint64_t both_save(struct shelf *shelf, uint8_t *out, size_t out_length);
 uint64_t both_load(const uint8_t *saved, size_t length, struct shelf *shelf);
@@ -35,9 +35,5 @@ void insist(int holds, const char *fact);
 
 /* samples.c: document 01's samples, with the expected values, for both. */
 void run_samples(void);
-
-/* compare_records.c and compare_books.c: one round of cases. */
-void compare_records(struct dice *dice);
-void compare_books(struct dice *dice, int with_large);
 
 #endif

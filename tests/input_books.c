@@ -1,0 +1,107 @@
+/* Generated books: lent ones of all rooms, and saved ones. */
+#include "inputs.h"
+
+#include <string.h>
+
+/* An empty book of these rooms, with any bytes in them. */
+void make_shelf(struct dice *dice, struct shelf *shelf, size_t line_room, size_t slip_room)
+{
+    shelf->lines_length = line_room * IN_LINE;
+    shelf->slips_length = slip_room * IN_SLIP;
+    shelf->used[0] = shelf->used[1] = 0;
+    for (size_t i = 0; i < shelf->lines_length; i++)
+        shelf->lines[i] = (uint8_t)roll(dice);
+    for (size_t i = 0; i < shelf->slips_length; i++)
+        shelf->slips[i] = (uint8_t)roll(dice);
+}
+
+/* A sound book whose keys repeat and whose sums are any; slips of any school. */
+void stock_shelf(struct dice *dice, struct shelf *shelf, size_t lines, size_t slips,
+                 size_t variety)
+{
+    uint8_t key[IN_KEY];
+    for (size_t i = 0; i < lines; i++) {
+        uint8_t *line = shelf->lines + i * IN_LINE;
+        make_line_key(dice, variety, line);
+        put_little(line + 49, 2, chance(dice, 4) ? 9999 : between(dice, 1, 30));
+        line[51] = (uint8_t)below(dice, 3);
+        put_little(line + 52, 4, chance(dice, 4) ? 9999999 - below(dice, 12000)
+                                                 : below(dice, 40));
+    }
+    for (size_t i = 0; i < slips && lines > 0; i++) {
+        uint8_t *slip = shelf->slips + i * IN_SLIP;
+        make_line_key(dice, variety, key);
+        memcpy(slip, key + 12, 12);
+        memcpy(slip + 12, key, 12);
+        make_slip_part(dice, variety == 0 ? 0 : 2, slip + 24);
+        put_little(slip + IN_LINE_OF_SLIP, 2, below(dice, lines));
+        put_little(slip + IN_COPIES, 2,
+                   chance(dice, 5) ? roll(dice) & 0xffff : between(dice, 1, 5));
+    }
+    shelf->used[0] = lines;
+    shelf->used[1] = lines > 0 ? slips : 0;
+}
+
+void unique_line_key(uint8_t *key, size_t number)
+{
+    memcpy(key, "43210     VD24000     VDR         9783442756841EN", IN_KEY);
+    put_digits(key + 25, 6, number);
+}
+
+void unique_slip_key(uint8_t *key, size_t number)
+{
+    memcpy(key, "24000     VD43210     VD20240226S         0001", IN_SLIP_KEY);
+    put_digits(key + 33, 6, number);
+}
+
+static void unique_slip(struct dice *dice, uint8_t *slip, size_t number, size_t line)
+{
+    unique_slip_key(slip, number);
+    put_little(slip + IN_LINE_OF_SLIP, 2, line);
+    put_little(slip + IN_COPIES, 2, between(dice, 1, 9999));
+}
+
+/* A book without repeated keys, each A the sum of its slips, as bookings make it. */
+void stock_unique(struct dice *dice, struct shelf *shelf, size_t lines, size_t slips)
+{
+    uint32_t sums[SHELF_LINES] = {0};
+    for (size_t i = 0; i < slips; i++) {
+        size_t line = below(dice, lines);
+        uint8_t *slip = shelf->slips + i * IN_SLIP;
+        unique_slip(dice, slip, i, line);
+        sums[line] += (uint32_t)get_little(slip + IN_COPIES, 2);
+    }
+    for (size_t i = 0; i < lines; i++) {
+        uint8_t *line = shelf->lines + i * IN_LINE;
+        unique_line_key(line, i);
+        put_little(line + 49, 2, between(dice, 1, 9999));
+        line[51] = (uint8_t)below(dice, 3);
+        put_little(line + 52, 4, sums[i]);
+    }
+    shelf->used[0] = lines;
+    shelf->used[1] = slips;
+}
+
+/* A valid save; copies 0 means any number on each slip. Slips go to the first lines. */
+size_t make_save(struct dice *dice, uint8_t *saved, size_t lines, size_t slips, size_t copies)
+{
+    uint8_t *to = saved;
+    for (size_t i = 0; i < lines; i++, to += IN_SAVED_LINE) {
+        to[0] = 1;
+        unique_line_key(to + 1, i);
+        make_article(dice, to + 1 + 34);
+        put_little(to + 50, 2, between(dice, 1, 9999));
+        to[52] = (uint8_t)below(dice, 3);
+    }
+    for (size_t i = 0; i < slips; i++, to += IN_SAVED_SLIP) {
+        to[0] = 2;
+        unique_slip(dice, to + 1, i, copies ? 0 : below(dice, lines));
+        make_day(dice, to + 1 + 24);
+        if (copies)
+            put_little(to + 1 + 48, 2, copies);
+    }
+    to[0] = 0;
+    put_little(to + 1, 2, lines);
+    put_little(to + 3, 2, slips);
+    return (size_t)(to + 5 - saved);
+}
