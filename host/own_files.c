@@ -63,14 +63,17 @@ static int give_rights(int to, const struct rights *rights)
     return fchmod(to, mode) == 0;
 }
 
+/* The lock file is opened again at each run, so its owner may always do that. */
 int own_files_open_lock(const struct own_files *files)
 {
     const char *path = files->paths[OWN_LOCK];
+    struct rights rights = files->rights;
     int flags = O_RDWR | O_NOFOLLOW | O_NONBLOCK | O_CLOEXEC;
     int lock = open(path, flags | O_CREAT | O_EXCL, PRIVATE_MODE);
     if (lock < 0 && errno == EEXIST)
         return open(path, flags);
-    if (lock >= 0 && !give_rights(lock, &files->rights)) {
+    rights.mode |= PRIVATE_MODE;
+    if (lock >= 0 && !give_rights(lock, &rights)) {
         int reason = errno;
         close(lock);
         errno = reason;
@@ -85,10 +88,10 @@ int own_files_open(const struct own_files *files, enum own which)
 }
 
 /* Makes a new file that nobody had before. Its name is kept in `path`. */
-static int make_fresh(const char *directory, char *path, size_t room)
+static int make_fresh(const char *directory, enum own which, char *path, size_t room)
 {
     int to = -1;
-    for (int number = 0; number < MOST_NAMES; number++) {
+    for (int number = which; number < MOST_NAMES; number += OWN_COUNT) {
         snprintf(path, room, "%s.wizqamul-new-%ld-%d", directory, (long)getpid(), number);
         to = open(path, O_WRONLY | O_CREAT | O_EXCL | O_NOFOLLOW | O_CLOEXEC, PRIVATE_MODE);
         if (to >= 0 || errno != EEXIST)
@@ -119,7 +122,7 @@ int own_files_write(struct own_files *files, enum own which, const uint8_t *byte
         complain(files->paths[which], "out of memory");
         return 0;
     }
-    to = make_fresh(files->directory, path, room);
+    to = make_fresh(files->directory, which, path, room);
     if (to < 0) {
         complain_system(files->directory, "cannot make a new file");
         free(path);
