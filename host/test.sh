@@ -30,7 +30,7 @@ fail() {
 pass() { passed=$((passed + 1)); }
 
 # Runs the program; keeps its exit code and both outputs. A run that hangs is ended.
-run() { timeout 60 "$host" "$@" >out 2>err; code=$?; }
+run() { timeout 30 "$host" "$@" >out 2>err; code=$?; }
 
 # Runs it as somebody whom the rights of files bind, in a directory that is his own.
 if [ "$(id -u)" -ne 0 ]; then
@@ -40,7 +40,7 @@ elif command -v setpriv >/dev/null; then
 else
     clerk=none
 fi
-run_as_clerk() { timeout 60 $clerk "$host" "$@" >out 2>err; code=$?; }
+run_as_clerk() { timeout 30 $clerk "$host" "$@" >out 2>err; code=$?; }
 
 expect_code() { [ "$code" -eq "$1" ] || fail "$2: exit code $code, not $1"; pass; }
 expect_out() { grep -qF -e "$1" out || fail "$2: no \"$1\" on standard output"; pass; }

@@ -24,11 +24,15 @@ copy_book desk.book first.book
 # --- two schools with the same reference; a line that is let go is listed --------------------
 put "$X" "$(order A-16 0003 '')" "$Y" "$(order A-17 0006 '' | sed 's/43210/43211/')" \
     "$(delivery 0001 0006 | sed 's/43210/43211/')" "$(order A-15 0002 '')" \
-    "$(report 010N | sed 's/A-17/A-15/')" >schools.bwa
+    "$(report 010N | sed 's/A-17/A-15/')" "$(order A-17 0008 '' | sed 's/43210     VD/43210     IB/')" >schools.bwa
 run --new schools.book schools.bwa
 expect_code 0 "two schools"
 sed -n '/^School/,$p' out | sed 's/  */ /g' | grep -v '^ supplier' >got
 cat >wanted <<'LIST'
+School 43210 IB
+ 24000 VD A-17 9783442756841 EN 8 0 8 - 0 0
+ total: 1 line 8 0 8 0 0
+
 School 43210 VD
  24000 VD A-15 9783442756841 EN 2 0 0 N 2 0
  24000 VD A-16 9783442756841 EN 3 0 3 - 0 0
@@ -40,8 +44,8 @@ School 43211 VD
  total: 1 line 6 6 0 0 0
 
 All schools
- total: 4 lines 21 10 9 2 0
- used: 4 of 512 lines, 2 of 1024 slips
+ total: 5 lines 29 10 17 2 0
+ used: 5 of 512 lines, 2 of 1024 slips
 LIST
 expect_text got wanted "two schools' list"
 run schools.book
@@ -114,7 +118,8 @@ put "$X" "$long" "" "$(order A-18 0010 "*8888$most")" "$(order A-19 0010 "*8888x
     "$(printf 'B\r101')" "$(printf '%s\n' "$(order A-21 0001)" x)" "$Y" \
     "$(order A-22 0001 '*12')" "$(order A-22 0001 '*9999')" "$(order A-22 0001 "$fields")" \
     "$(order A-22 0001 '*1029030')" "$(order A-22 0000 '')" "$(order A-17 0012 '')" \
-    "$(delivery 0002 0001 | sed 's/A-17/A-99/')" "$(delivery 0001 0009 | sed 's/A-17/A-18/')" >odd.bwa
+    "$(delivery 0002 0001 | sed 's/A-17/A-99/')" "$(delivery 0001 0009 | sed 's/A-17/A-18/')" \
+    "$(delivery 0003 0300 | sed 's/A-17/A-18/')" "$(delivery 0003 0044)" >odd.bwa
 run --new odd.book odd.bwa
 expect_code 1 "odd records"
 sed '/^records:/q' out >got
@@ -138,10 +143,12 @@ odd.bwa:13 B101 11 the quantity is 0 | $who, reference A-22, $item, quantity 000
 odd.bwa:14 B101 14 this order line is in the book already | $who, reference A-17, $item, quantity 0012 | in the book: quantity 0010
 odd.bwa:15 L101 16 no such order line in the book | $whom, position 0002, reference A-99, $item, quantity 0001
 odd.bwa:16 L101 18 this slip is booked already with another line or quantity | $whom, position 0001, reference A-18, $item, quantity 0009 | in the book: reference A-17, $item, quantity 0004
-records: 3 booked, 0 with nothing to book, 13 refused
+odd.bwa:17 L101 0 done | $whom, position 0003, reference A-18, $item, quantity 0300 | ordered 10, filled 10, open 0, let go 0, extra 290
+odd.bwa:18 L101 18 this slip is booked already with another line or quantity | $whom, position 0003, reference A-17, $item, quantity 0044 | in the book: reference A-18, $item, quantity 0300
+records: 4 booked, 0 with nothing to book, 14 refused
 ANSWERS
 expect_text got wanted "odd records"
-sed -n '/^Refused records, once more: 13$/,$p' out | sed 1d >got
+sed -n '/^Refused records, once more: 14$/,$p' out | sed 1d >got
 grep -v -e ' 0 done' -e '^records:' wanted >again
 expect_text got again "refused records, repeated at the end"
 put "$X" >tail.bwa

@@ -12,16 +12,16 @@ start_afresh() { rm -rf fault && cp -rp calm fault; }
 run_injected() {    # what is injected; then the arguments
     inject=$1
     shift
-    (cd fault && timeout 60 strace --seccomp-bpf -f -y -o ../trace -e "trace=$calls" ${inject:+-e "inject=$inject"} \
-        "$host" "$@" >../out 2>../err)
-    code=$?
+    { (cd fault && timeout 30 strace -f -y -o ../trace -e "trace=$calls" \
+        ${inject:+-e "inject=$inject"} "$host" "$@" >../out 2>../err); code=$?; } 2>/dev/null
 }
 
 # All that stands beside the book, and the book.
 state_of() { cat "$1/b" "$1/b.old" "$1/b.digests" "$1/b.log"; }
 
 # Writes a line for each call that the program makes of its own: name, which one, and whether
-# an error there must not go unnoticed. The program's first call is fcntl(0, F_GETFD).
+# an error there must not go unnoticed. The program's first call is fcntl(0, F_GETFD). Calls
+# of the system's own libraries, and looks at files by their names, are left out.
 list_points() {
     awk -v here="$work/fault" '
         !main && /fcntl\(0<.*F_GETFD/ { main = $1 }
@@ -32,7 +32,8 @@ list_points() {
                 if (part[1] != main || part[2] !~ /^[a-z]/) continue
                 name = part[2]; sub(/\(.*/, "", name); count[name]++
                 if (started) {
-                    own = index(lines[i], here) > 0 && lines[i] !~ /qemu|x86_64-linux-gnu/
+                    if (lines[i] ~ /"\/(usr|etc)\// || (name ~ /stat/ && index(lines[i], "\"" here "/b"))) continue
+                    own = index(lines[i], here) > 0
                     fresh = lines[i] ~ /<[^>]*\.wizqamul-new/
                     must = name ~ /^(write|fsync|fchmod|rename|renameat|renameat2)$/ ||
                            (name ~ /^(openat|read)$/ && own) || (name == "close" && fresh) ||
@@ -83,6 +84,7 @@ inject_all() {
         case $name in openat | write | close | fsync | fchmod | rename* | unlink*)
             start_afresh
             run_injected "$name:signal=SIGKILL:when=$number" b five.bwa
+            [ $code -eq 137 ] || fail "killed at $at: exit code $code"
             expect_whole "killed at $at"
             expect_next "killed at $at"
             pass ;;
@@ -93,6 +95,12 @@ inject_all() {
             [ $code -eq 0 ] || fail "$at interrupted: exit code $code"
             expect_whole "$at interrupted"
             pass ;;
+        esac
+        case $name,$fresh in fsync,other)      # a file system that cannot do it for a directory
+            start_afresh
+            run_injected "$name:error=EINVAL:when=$number" b five.bwa
+            expect_code 0 "a directory that cannot be synced"
+            expect_whole "a directory that cannot be synced" ;;
         esac
         case $name,$fresh in write,fresh)
             start_afresh
@@ -108,7 +116,7 @@ start_stopped() {   # the call and its number; then the arguments
     inject="$1:signal=SIGSTOP:when=$2"
     shift 2
     rm -f stopped
-    (cd fault && exec strace --seccomp-bpf -f -o ../stopped -e "trace=$calls" -e "inject=$inject" "$host" "$@" >../first.out 2>../first.err) &
+    (cd fault && exec strace -f -o ../stopped -e "trace=$calls" -e "inject=$inject" "$host" "$@" >../first.out 2>../first.err) &
     child=$!
     tries=0
     until grep -q 'stopped by SIGSTOP' stopped 2>/dev/null; do
@@ -129,7 +137,7 @@ two_at_once() {
     go_on
     expect_code 0 "a run that gets the lock later"
     run fault/b
-    expect_out "used: 4 of 512 lines, 5 of 1024 slips" "two runs, one after the other"
+    expect_out "used: 5 of 512 lines, 5 of 1024 slips" "two runs, one after the other"
     # The lock is held until the book is in place.
     start_afresh
     start_stopped $(awk '$1 == "fsync" { last = this; this = $1 " " $2 } END { print last }' points) b five.bwa
@@ -141,7 +149,7 @@ two_at_once() {
     expect_same fault/b want.book "the run that saves"
 }
 
-if strace --seccomp-bpf -f -o /dev/null -e trace=getppid -e inject=getppid:error=EIO true 2>/dev/null; then
+if strace -f -o /dev/null -e trace=getppid -e inject=getppid:error=EIO true 2>/dev/null; then
     mkdir calm
     copy_book kept.book calm/b
     cp five.bwa calm
@@ -159,7 +167,11 @@ if strace --seccomp-bpf -f -o /dev/null -e trace=getppid -e inject=getppid:error
         grep -q "^$name .* must" points || fail "no $name among the calls of a run"
         pass
     done
-    grep -q "^rename.* must" points || fail "no rename among the calls of a run"
+    # Four new files go to the disk; three take their names, and the directory goes to the
+    # disk; then the book takes its name, and the directory goes to the disk again.
+    awk '/^fsync/ { print "sync", $4 } /^rename/ { print "rename" }' points | tr '\n' ' ' >got
+    echo "sync fresh sync fresh sync fresh sync fresh rename rename rename sync other rename sync other " | tr -d '\n' >wanted
+    expect_text got wanted "the order of a save"
     two_at_once
     inject_all
 else

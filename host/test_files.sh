@@ -28,6 +28,7 @@ expect_same void.book.old wanted "a new book goes on"
 # --- the book before the last run is kept; a run that changes nothing keeps it too ---------------------
 copy_book schools.book kept.book
 put "$(delivery 0004 0001)" >four.bwa
+put "$(delivery 0005 0001)" >five.bwa
 run kept.book four.bwa
 expect_code 0 "the book before"
 expect_same kept.book.old schools.book "the book before"
@@ -55,22 +56,22 @@ for ending in '' .old .digests .log .lock; do
     expect_code 2 "own file$ending as a file of records"
     expect_err "this is the book or a file that belongs to it" "own file$ending as a file of records"
     expect_same "own.book$ending" before "own file$ending as a file of records"
-    timeout 60 "$host" own.book - <"own.book$ending" >out 2>err; code=$?
+    timeout 30 "$host" own.book - <"own.book$ending" >out 2>err; code=$?
     expect_code 2 "own file$ending as standard input"
     ln -f "own.book$ending" alias
     run own.book alias
     expect_code 2 "own file$ending by another name"
     rm alias
-    timeout 60 "$host" own.book four.bwa >>"own.book$ending" 2>err; code=$?
+    timeout 30 "$host" own.book four.bwa >>"own.book$ending" 2>err; code=$?
     expect_code 2 "own file$ending as standard output"
     expect_same "own.book$ending" before "own file$ending as standard output"
     expect_err "is a file of this book" "own file$ending as standard output"
-    timeout 60 "$host" own.book four.bwa 2>>"own.book$ending" >out; code=$?
+    timeout 30 "$host" own.book four.bwa 2>>"own.book$ending" >out; code=$?
     expect_code 2 "own file$ending as standard error"
     expect_same "own.book$ending" before "own file$ending as standard error"
     expect_out "is a file of this book" "own file$ending as standard error"
 done
-timeout 60 "$host" own.book four.bwa >>own.book.log 2>>own.book.old; code=$?
+timeout 30 "$host" own.book four.bwa >>own.book.log 2>>own.book.old; code=$?
 expect_code 2 "own files as both streams"
 expect_same own.book.old kept.book.old "own files as both streams"
 for ending in .old .digests .log; do
@@ -83,13 +84,17 @@ for ending in .old .digests .log; do
     [ "$(cat "own.book$ending")" = "a clerk's own notes" ] || fail "somebody's file named BOOK$ending: lost"
     expect_same own.book schools.book "somebody's file named BOOK$ending"
     rm "own.book$ending"
-    ln -s /dev/null "own.book$ending"
-    run own.book four.bwa
+    copy_book kept.book own.book
+    mv "own.book$ending" moved
+    ln -s moved "own.book$ending"
+    run own.book five.bwa
     expect_code 2 "BOOK$ending as a link"
+    expect_err "Too many levels of symbolic links" "BOOK$ending as a link"
     rm "own.book$ending"
     mkfifo "own.book$ending"
-    run own.book four.bwa
+    run own.book five.bwa
     expect_code 2 "BOOK$ending as a FIFO"
+    [ $ending = .old ] || expect_err "this is not an ordinary file" "BOOK$ending as a FIFO"
     rm "own.book$ending"
 done
 copy_book schools.book own.book
@@ -108,7 +113,7 @@ rm own.book.lock
 
 # --- ways to hand over records -----------------------------------------------------------------------------
 run --new desk2.book desk.bwa
-timeout 60 "$host" --new input.book - <desk.bwa >out 2>err; code=$?
+timeout 30 "$host" --new input.book - <desk.bwa >out 2>err; code=$?
 expect_code 1 "standard input"
 expect_same input.book first.book "standard input"
 run --new two.book order.bwa delivery.bwa
@@ -121,11 +126,17 @@ while [ $number -lt 60 ]; do
     set -- "$@" "file$number.bwa"
     number=$((number + 1))
 done
-(ulimit -n 24; timeout 60 "$host" --new sixty.book "$@" >out 2>err; echo $? >code)
+(ulimit -n 24; timeout 30 "$host" --new sixty.book "$@" >out 2>err; echo $? >code)
 code=$(cat code)
 expect_code 0 "more files than may be open"
 expect_out "used: 60 of 512 lines" "more files than may be open"
-(head -c 67108865 /dev/zero; put "$X") | timeout 60 "$host" --new huge.book - >out 2>err; code=$?
+(put "$X"; cat usual.bwa; sleep 0.2; cat four.bwa) | timeout 30 "$host" --new parts.book - >out 2>err; code=$?
+expect_code 0 "standard input that comes in parts"
+expect_answers "1 B101 0 10 0 10 0 0
+2 L101 0 10 4 6 0 0
+3 L101 13
+4 L101 0 10 5 5 0 0" "standard input that comes in parts"
+(head -c 67108865 /dev/zero; put "$X") | timeout 30 "$host" --new huge.book - >out 2>err; code=$?
 expect_code 2 "a file without end"
 expect_err "cannot read to the end: File too large" "a file without end"
 expect_none huge.book "a file without end"
@@ -176,13 +187,13 @@ run --accept-book records.bwa four.bwa
 expect_code 2 "file of records as the book, accepted"
 expect_err "this is a file of records and not a book" "file of records as the book, accepted"
 expect_same records.bwa order.bwa "file of records as the book"
-timeout 60 "$host" two.book <&- >out 2>err; code=$?
+timeout 30 "$host" two.book <&- >out 2>err; code=$?
 expect_code 2 "closed standard input"
 expect_err "standard input: it is closed" "closed standard input"
-timeout 60 "$host" two.book >&- 2>err; code=$?
+timeout 30 "$host" two.book >&- 2>err; code=$?
 expect_code 2 "closed standard output"
 expect_err "standard output: it is closed" "closed standard output"
-timeout 60 "$host" two.book four.bwa 2>&- >out; code=$?
+timeout 30 "$host" two.book four.bwa 2>&- >out; code=$?
 expect_code 2 "closed standard error"
 expect_out "standard error: it is closed" "closed standard error"
 expect_same two.book open.book "closed standard error"

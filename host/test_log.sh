@@ -19,6 +19,11 @@ grep -q "^20..-..-..T..:..:..Z from $(printf '\0\0\0\0\0' | sha256sum | cut -c 1
     fail "log: no line of the day"
 pass
 
+earliest=$(date -u +%Y-%m-%dT%H)
+TZ=XYZ-13 timeout 30 "$host" log.book four.bwa >out 2>err
+latest=$(date -u +%Y-%m-%dT%H)
+case $(tail -n 1 log.book.log) in "$earliest"* | "$latest"*) pass ;; *) fail "log: its time is not UTC" ;; esac
+
 # --- damaged, changed and foreign books --------------------------------------------------------------------
 refused_book() {    # the book, what is said, what it is
     cp "$1" kept
@@ -100,7 +105,7 @@ expect_code 1 "monday's file once more"
 expect_err "fetched.bwa: left out: these bytes were booked at 20" "monday's file once more"
 expect_out "files booked before, and left out: 1" "monday's file once more"
 expect_same twice.book tuesday.book "monday's file once more"
-timeout 60 "$host" twice.book - <monday.bwa >out 2>err; code=$?
+timeout 30 "$host" twice.book - <monday.bwa >out 2>err; code=$?
 expect_code 1 "monday's file on standard input"
 expect_same twice.book tuesday.book "monday's file on standard input"
 run twice.book delivery.bwa monday.bwa delivery.bwa
@@ -154,7 +159,6 @@ expect_err "left out" "files count for a book taken on purpose"
 expect_not "whole past" err "a book taken on purpose"
 printf 'no line at its end' >>taken.book.log
 printf 'no line at its end' >>taken.book.digests
-put "$(delivery 0005 0001)" >five.bwa
 run taken.book five.bwa
 expect_code 0 "a log that does not end with a line"
 run taken.book five.bwa

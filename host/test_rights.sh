@@ -38,7 +38,7 @@ for mode in 600 640 664; do
     done
     rm -f rights.book*
 done
-(umask 027; timeout 60 "$host" --new mask.book order.bwa >out 2>err)
+(umask 027; timeout 30 "$host" --new mask.book order.bwa >out 2>err)
 for ending in '' .digests .log .lock; do expect_mode mask.book$ending -rw-r----- "a new book under a umask"; done
 copy_book schools.book protected.book
 chmod 444 protected.book

@@ -65,12 +65,18 @@ expect_err "limit.book: the book is saved" "standard output that is full after t
 run limit.book
 expect_out "used: 2 of 512 lines" "standard output that is full after the save"
 if [ -c /dev/full ]; then
-    timeout 60 "$host" old.book many.bwa >/dev/full 2>err; code=$?
+    timeout 30 "$host" old.book many.bwa >/dev/full 2>err; code=$?
     save_failed "full standard output"
     expect_err "standard output:" "full standard output"
-    timeout 60 "$host" old.book >/dev/full 2>err; code=$?
+    timeout 30 "$host" old.book >/dev/full 2>err; code=$?
     expect_code 2 "list to a full standard output"
 fi
+mkfifo gone
+exec 5<>gone 6>gone 5>&-       # a pipe that nobody reads
+timeout 30 "$host" old.book many.bwa >&6 2>err; code=$?
+exec 6>&-
+save_failed "standard output that nobody reads"
+expect_err "Broken pipe" "standard output that nobody reads"
 run_with_names() {  # numbers of names that are taken; then the program's arguments
     names=$1
     shift
@@ -120,7 +126,7 @@ rm -f .wizqamul*
 # The first run prints more than a pipe holds, so it waits while it holds the lock.
 mkfifo pipe
 copy_book first.book shared.book
-timeout 60 "$host" shared.book many.bwa >pipe 2>first.err & child=$!
+timeout 30 "$host" shared.book many.bwa >pipe 2>first.err & child=$!
 exec 4<pipe
 head -c 1 <&4 >/dev/null
 run shared.book four.bwa
