@@ -40,6 +40,7 @@ elif command -v setpriv >/dev/null; then
 else
     clerk=none
 fi
+[ -z "$clerk" ] || [ "$clerk" = none ] || $clerk test -r "$work/wizqamul-host" || clerk=none
 run_as_clerk() { timeout 30 $clerk "$host" "$@" >out 2>err; code=$?; }
 
 expect_code() { [ "$code" -eq "$1" ] || fail "$2: exit code $code, not $1"; pass; }

@@ -1,7 +1,7 @@
 # Faults and kills at each system call of a run, injected by strace.
 
 if ! command -v strace >/dev/null && [ "$(id -u)" -eq 0 ] && command -v apt-get >/dev/null; then
-    { apt-get -q update && apt-get -q -y install strace; } >/dev/null 2>&1
+    timeout 120 sh -c 'apt-get -q update && apt-get -q -y install strace' >/dev/null 2>&1
 fi
 
 # The calls at which something is injected; a ? lets a machine lack one.
@@ -111,6 +111,41 @@ inject_all() {
     done <points
 }
 
+# A new book that is killed at a rename is there whole or not at all, and can be made then.
+inject_new() {
+    rm -rf fault && mkdir fault && cp order.bwa fault
+    run_injected "" --new b order.bwa
+    expect_code 0 "a new book, traced"
+    list_points | grep '^rename' >renames
+    [ "$(wc -l <renames)" -eq 3 ] || fail "a new book takes $(wc -l <renames) names, not 3"
+    cp fault/b want_new.book
+    while read -r name number must fresh lock; do
+        rm -rf fault && mkdir fault && cp order.bwa fault
+        run_injected "$name:signal=SIGKILL:when=$number" --new b order.bwa
+        expect_code 137 "a new book, killed at $name number $number"
+        expect_none fault/b "a new book, killed at $name number $number"
+        run fault/b fault/order.bwa
+        expect_code 2 "a new book that was not made"
+        run --new fault/b fault/order.bwa
+        expect_code 0 "a new book made after all"
+        expect_same fault/b want_new.book "a new book made after all"
+    done <renames
+}
+
+# Answers that do not fit into one write: an error at the first is not forgotten by the last.
+inject_answers() {
+    start_afresh
+    cp many.bwa fault
+    run_injected "" b many.bwa
+    first=$(list_points | awk '$1 == "write" { print $2; exit }')
+    start_afresh
+    cp many.bwa fault
+    run_injected "write:error=ENOSPC:when=$first" b many.bwa
+    expect_code 2 "a part of the answers cannot be printed"
+    expect_err "standard output: " "a part of the answers cannot be printed"
+    expect_same fault/b calm/b "a part of the answers cannot be printed"
+}
+
 # Starts a run that stops at a call, and waits until it has stopped.
 start_stopped() {   # the call and its number; then the arguments
     inject="$1:signal=SIGSTOP:when=$2"
@@ -173,6 +208,8 @@ if strace -f -o /dev/null -e trace=getppid -e inject=getppid:error=EIO true 2>/d
     echo "sync fresh sync fresh sync fresh sync fresh rename rename rename sync other rename sync other " | tr -d '\n' >wanted
     expect_text got wanted "the order of a save"
     two_at_once
+    inject_new
+    inject_answers
     inject_all
 else
     echo "host: faults at system calls not injected (no strace)"

@@ -118,6 +118,7 @@ expect_code 1 "standard input"
 expect_same input.book first.book "standard input"
 run --new two.book order.bwa delivery.bwa
 expect_code 0 "two files"
+expect_out "records: 2 booked, 0 with nothing to book, 0 refused" "two files"
 expect_same two.book open.book "two files"
 number=0
 set --

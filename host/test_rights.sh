@@ -53,7 +53,7 @@ expect_code 0 "list of a book that nobody may write"
 
 # --- as a clerk whom rights bind ----------------------------------------------------------------------------
 if [ "$clerk" = none ]; then
-    echo "host: rights of other users not checked (no setpriv)"
+    echo "host: rights of other users not checked (no way to run as one)"
 else
     mkdir desk
     copy_book schools.book desk/book
