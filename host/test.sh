@@ -93,8 +93,13 @@ many() {    # orders of one copy: the first number of a reference, and the last
 }
 many 1000 1512 >many.bwa
 
-# A copy of a book with all that stands beside it.
-copy_book() { for ending in '' .old .digests .log; do cp -p "$1$ending" "$2$ending" 2>/dev/null; done; }
+# A copy of a book with all that stands beside it, in place of what was there.
+copy_book() {
+    for beside in '' .old .digests .log; do
+        rm -f "$2$beside"
+        [ ! -e "$1$beside" ] || cp -p "$1$beside" "$2$beside"
+    done
+}
 
 for part in answers text files log rights runs faults; do
     . "$parts/test_$part.sh"
