@@ -54,6 +54,7 @@ name_is "$(printf 'half\355\240\200x')" 'half\xED\xA0\x80x'
 name_is "$(printf 'far\364\220\200\200x')" 'far\xF4\x90\x80\x80x'
 name_is "$(printf 'far\371\200\200\200x')" 'far\xF9\x80\x80\x80x'
 name_is "$(printf 'cut\342\202')" 'cut\xE2\x82'
+name_is "$(printf 'cut\342\202x')" 'cut\xE2\x82x'
 run first.book "$(printf 'no\033such')"
 expect_code 2 "odd name in a complaint"
 expect_err 'no\x1Bsuch: cannot open: No such file or directory' "odd name in a complaint"
