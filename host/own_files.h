@@ -35,7 +35,7 @@ struct own_files {
 /* Makes the names from the book's own path, which holds a slash. Returns 0 without memory. */
 int own_files_name(struct own_files *files, const char *path);
 
-/* Which of the files a status belongs to: its ending in words, or NULL for none. */
+/* The path of the file that a status belongs to, or NULL where it is none of them. */
 const char *own_files_which(const struct own_files *files, const struct stat *status);
 
 /* Opens the lock file, and makes it where it is missing; -1 with errno set where it cannot. */

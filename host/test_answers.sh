@@ -27,7 +27,8 @@ put "$X" "$(order A-16 0003 '')" "$Y" "$(order A-17 0006 '' | sed 's/43210/43211
     "$(report 010N | sed 's/A-17/A-15/')" "$(order A-17 0008 '' | sed 's/43210     VD/43210     IB/')" >schools.bwa
 run --new schools.book schools.bwa
 expect_code 0 "two schools"
-sed -n '/^School/,$p' out | sed 's/  */ /g' | grep -v '^ supplier' >got
+list_of_run() { sed -n '/^School/,$p' out | sed 's/  */ /g' | grep -v '^ supplier'; }
+list_of_run >got
 cat >wanted <<'LIST'
 School 43210 IB
  24000 VD A-17 9783442756841 EN 8 0 8 - 0 0
@@ -50,7 +51,7 @@ LIST
 expect_text got wanted "two schools' list"
 run schools.book
 expect_code 0 "list alone"
-sed -n '/^School/,$p' out | sed 's/  */ /g' | grep -v '^ supplier' >got
+list_of_run >got
 expect_text got wanted "list alone"
 expect_silent "list alone"
 
