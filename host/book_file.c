@@ -2,6 +2,7 @@
 #define _XOPEN_SOURCE 700
 
 #include "book_file.h"
+#include "text.h"
 #include "words.h"
 
 #include <errno.h>
@@ -9,104 +10,120 @@
 #include <stdio.h>
 #include <stdlib.h>
 #include <string.h>
-#include <sys/stat.h>
 #include <unistd.h>
-
-#define NEW_ENDING ".new"
-#define LOCK_ENDING ".lock"
 
 enum {
     FILE_MODE = 0666,           /* for a new book: less what the umask takes away */
     MODE_BITS = 07777,
-    MOST_COUNT = 65535,         /* the most that a save's two-byte counts can say */
-    LONGEST_SAVE = WQ_SAVE_LENGTH(WQ_MOST_LINES, WQ_MOST_SLIPS),
-    LONGEST_VALID = WQ_SAVE_LENGTH(MOST_COUNT, MOST_COUNT)
+    WRITE_BITS = 0222
 };
-
-static char *joined(const char *first, const char *second)
-{
-    size_t length = strlen(first) + strlen(second) + 1;
-    char *both = malloc(length);
-    if (both != NULL)
-        snprintf(both, length, "%s%s", first, second);
-    return both;
-}
 
 /* The path of a book that is not there yet: its directory has to be. */
 static char *path_in_directory(const char *name)
 {
     const char *slash = strrchr(name, '/');
     const char *last = slash == NULL ? name : slash + 1;
+    size_t length = (size_t)(last - name);
+    char *asked = malloc(length + 2), *real = NULL, *path = NULL;
     struct stat status;
-    char *asked, *real, *with_slash, *path = NULL;
-    if (*last == '\0' || lstat(name, &status) == 0) {
+    if (asked != NULL && *last != '\0' && lstat(name, &status) != 0) {
+        snprintf(asked, length + 2, "%.*s", (int)length, length == 0 ? "" : name);
+        real = realpath(length == 0 ? "." : asked, NULL);
+    } else if (asked != NULL) {
         errno = ENOENT;         /* no name, or a link to nothing */
-        return NULL;
     }
-    asked = slash == NULL ? joined(".", "") : joined(name, "");
-    if (asked == NULL)
-        return NULL;
-    if (slash != NULL)
-        asked[slash - name + 1] = '\0';
-    real = realpath(asked, NULL);
+    if (real != NULL)
+        path = malloc(strlen(real) + strlen(last) + 2);
+    if (path != NULL)
+        sprintf(path, "%s/%s", real, last);
     free(asked);
-    if (real == NULL)
-        return NULL;
-    with_slash = joined(real, "/");
     free(real);
-    if (with_slash != NULL)
-        path = joined(with_slash, last);
-    free(with_slash);
     return path;
 }
 
-/* A book is an ordinary file, or not there yet. */
-static int may_be_book(const char *path)
+/* All files of a book have the book's rights. */
+static void take_rights(struct rights *rights, const struct stat *status)
+{
+    rights->given = 1;
+    rights->owner = status->st_uid;
+    rights->group = status->st_gid;
+    rights->mode = status->st_mode & MODE_BITS;
+}
+
+/* Why a book that is there cannot serve, or NULL. A run that writes asks for the right to
+   write before it touches anything; where nobody has it, not even the superuser gets it. */
+static const char *trouble_with(const struct wishes *wishes, const char *name,
+                                const struct stat *status)
+{
+    if (!S_ISREG(status->st_mode))
+        return "the book is not an ordinary file";
+    if (wishes->make_new)
+        return "there is such a book already; --new makes a book that is not there";
+    if (wishes->write && ((status->st_mode & WRITE_BITS) == 0 || access(name, W_OK) != 0))
+        return "the book is write-protected";
+    return NULL;
+}
+
+/* What is known of the book before it is opened. A new book gets the rights that the umask
+   leaves, as any new file does. */
+static int judge_book(struct book_file *file, const char *name, int exists)
 {
     struct stat status;
-    if (stat(path, &status) != 0 || S_ISREG(status.st_mode))
-        return 1;
-    complain(path, "the book is not an ordinary file");
-    return 0;
+    const char *trouble = NULL;
+    mode_t mask = umask(0);
+    umask(mask);
+    file->files.rights.mode = FILE_MODE & ~mask;
+    if (!exists && !file->wishes.make_new)
+        trouble = "there is no such book; --new makes a new one";
+    if (exists && stat(name, &status) != 0) {
+        complain_system(name, "cannot look at the book");
+        return 0;
+    }
+    if (exists) {
+        trouble = trouble_with(&file->wishes, name, &status);
+        take_rights(&file->files.rights, &status);
+    }
+    if (trouble != NULL)
+        complain(name, trouble);
+    return trouble == NULL;
 }
 
 /* Follows symbolic links, so that a new book replaces the file and not the link, and so
    that two names of one book share one lock. */
-int book_file_find(struct book_file *file, const char *name)
+int book_file_find(struct book_file *file, const char *name, const struct wishes *wishes)
 {
+    char *path = realpath(name, NULL);
+    int exists = path != NULL, named;
     memset(file, 0, sizeof *file);
     file->lock = -1;
-    file->path = realpath(name, NULL);
-    if (file->path == NULL && errno == ENOENT)
-        file->path = path_in_directory(name);
-    if (file->path == NULL) {
+    file->wishes = *wishes;
+    if (path == NULL && errno == ENOENT)
+        path = path_in_directory(name);
+    if (path == NULL) {
         complain_system(name, "cannot find the book or its directory");
         return 0;
     }
-    if (!may_be_book(file->path))
-        return 0;
-    file->directory = joined(file->path, "");
-    file->new_path = joined(file->path, NEW_ENDING);
-    file->lock_path = joined(file->path, LOCK_ENDING);
-    if (file->directory == NULL || file->new_path == NULL || file->lock_path == NULL) {
+    named = own_files_name(&file->files, path);
+    free(path);
+    if (!named)
         complain(name, "out of memory");
-        return 0;
-    }
-    strrchr(file->directory, '/')[1] = '\0';
-    return 1;
+    return named && judge_book(file, name, exists);
 }
 
 /* Two runs that book must not meet: the later one would undo the earlier one's work. The
-   lock file stays; the system gives the lock back when the run ends, however it ends.
-   Every clerk may use the lock file, so the umask is put aside where it is made. */
+   lock file stays; the system gives the lock back when the run ends, however it ends. */
 int book_file_lock(struct book_file *file)
 {
+    const char *path = file->files.paths[OWN_LOCK];
     struct flock whole;
-    mode_t mask = umask(0);
-    file->lock = open(file->lock_path, O_RDWR | O_CREAT | O_CLOEXEC, FILE_MODE);
-    umask(mask);
-    if (file->lock < 0) {
-        complain_system(file->lock_path, "cannot open the lock file");
+    struct stat status;
+    file->lock = own_files_open_lock(&file->files);
+    if (file->lock < 0 || fstat(file->lock, &status) != 0) {
+        complain_system(path, "cannot open the lock file");
+        return 0;
+    }
+    if (!S_ISREG(status.st_mode)) {
+        complain(path, "the lock file is not an ordinary file");
         return 0;
     }
     memset(&whole, 0, sizeof whole);
@@ -115,37 +132,103 @@ int book_file_lock(struct book_file *file)
     if (fcntl(file->lock, F_SETLK, &whole) == 0)
         return 1;
     if (errno == EACCES || errno == EAGAIN)
-        complain(file->path, "another run is booking into this book; try again later");
+        complain(file->files.paths[OWN_BOOK],
+                 "another run is booking into this book; try again later");
     else
-        complain_system(file->lock_path, "cannot lock");
+        complain_system(path, "cannot lock");
     return 0;
 }
 
-/* Reads a whole file of a known size; NULL where that fails. One byte more is asked for,
-   so that the bytes are never a null pointer and a file that grows is noticed. */
-static uint8_t *read_whole(int from, size_t size)
+/* What has to be right about the file before its bytes are looked at. A run that writes wants
+   a book that has no second name: a new book would take only one of the two. */
+static int judge_file(struct book_file *file, const struct stat *status)
 {
-    uint8_t *bytes = malloc(size + 1);
-    size_t length = 0;
-    while (bytes != NULL && length <= size) {
-        ssize_t count = read(from, bytes + length, size + 1 - length);
-        if (count == 0 && length == size)
-            return bytes;
-        if (count < 0 && errno == EINTR)
-            continue;
-        if (count <= 0)
-            break;
-        length += (size_t)count;
+    const char *trouble = NULL;
+    if (!S_ISREG(status->st_mode))
+        trouble = "the book is not an ordinary file";
+    else if (file->wishes.write && status->st_nlink > 1)
+        trouble = "the book has a second name (a hard link), which would keep the old book; "
+                  "make a copy of its own for one of them";
+    else if (status->st_size > LONGEST_SAVE)
+        trouble = "no book is as long as this file; it is left untouched";
+    if (trouble != NULL)
+        complain(file->files.paths[OWN_BOOK], trouble);
+    take_rights(&file->files.rights, status);
+    return trouble == NULL;
+}
+
+/* Reads the bytes of a saved book. */
+static int read_saved(const char *path, int from, struct saved *saved)
+{
+    struct bytes bytes;
+    if (!whole_read(from, LONGEST_SAVE, &bytes)) {
+        complain_system(path, "cannot read the book");
+        return 0;
     }
-    free(bytes);
-    return NULL;
+    memcpy(saved->bytes, bytes.start, bytes.length);
+    saved->length = bytes.length;
+    digest_of(saved->bytes, saved->length, saved->digest);
+    free(bytes.start);
+    return 1;
+}
+
+/* Opens and reads the book. */
+static int read_book(struct book_file *file)
+{
+    const char *path = file->files.paths[OWN_BOOK];
+    int done, from = own_files_open(&file->files, OWN_BOOK);
+    struct stat status;
+    if (from < 0) {
+        complain_system(path, "cannot open the book");
+        return 0;
+    }
+    done = fstat(from, &status) == 0;
+    if (!done)
+        complain_system(path, "cannot look at the book");
+    done = done && judge_file(file, &status) && read_saved(path, from, &file->loaded);
+    close(from);
+    return done;
+}
+
+/* The first bytes tell a file of records: no saved book begins with a letter. */
+static int is_record_file(const struct saved *saved)
+{
+    static const char *const kinds[] = {WQ_KIND_ORDER, WQ_KIND_DELIVERY, WQ_KIND_REPORT};
+    int found = 0;
+    for (size_t i = 0; i < sizeof kinds / sizeof kinds[0]; i++)
+        found |= saved->length >= WQ_KIND_WIDTH &&
+                 memcmp(saved->bytes, kinds[i], WQ_KIND_WIDTH) == 0;
+    return found;
+}
+
+/* Whether the book is one that was saved here, or is taken on purpose. */
+static int judge_digest(struct book_file *file)
+{
+    const char *path = file->files.paths[OWN_BOOK];
+    if (is_record_file(&file->loaded)) {
+        complain(path, "this is a file of records and not a book; the book comes first");
+        return 0;
+    }
+    if (history_knows_book(&file->history, file->loaded.digest))
+        return 1;
+    if (file->wishes.accept) {
+        complain(path, "this book was not saved here as it stands; it is taken on purpose");
+        return 1;
+    }
+    complain(path, file->history.digests.length == 0
+             ? "there are no digests beside this book that tell whether it is whole; "
+               "--accept-book takes it as it is"
+             : "this is none of the books that were saved here: it is damaged, or was brought "
+               "from elsewhere; --accept-book takes it as it is");
+    return 0;
 }
 
 /* Hands the file's bytes to the library and tells what a refusal means. */
-static int load_bytes(const char *path, const uint8_t *bytes, size_t length, struct book *book)
+static int load_bytes(const struct book_file *file, struct book *book)
 {
-    wq_loaded loaded = wq_load(bytes, length, book->lines, sizeof book->lines,
-                               book->slips, sizeof book->slips, book->used);
+    const char *path = file->files.paths[OWN_BOOK];
+    wq_loaded loaded = wq_load(file->loaded.bytes, file->loaded.length, book->lines,
+                               sizeof book->lines, book->slips, sizeof book->slips, book->used);
     if (loaded.answer == WQ_SAVE_INVALID)
         complain(path, "answer 22: the book is damaged; it is left untouched");
     else if (loaded.answer == WQ_TOO_SMALL)
@@ -156,139 +239,116 @@ static int load_bytes(const char *path, const uint8_t *bytes, size_t length, str
     return loaded.answer == WQ_DONE;
 }
 
-static int load_open(struct book_file *file, int from, struct book *book)
+/* BOOK.old is replaced at the next save, so it has to be a book that was saved here. */
+static int judge_old(const struct book_file *file)
 {
-    struct stat status;
-    uint8_t *bytes;
-    int done;
-    if (fstat(from, &status) != 0) {
-        complain_system(file->path, "cannot read the book");
-        return 0;
-    }
-    file->exists = 1;
-    file->owner = status.st_uid;
-    file->group = status.st_gid;
-    file->mode = status.st_mode & MODE_BITS;
-    if (status.st_size > LONGEST_VALID) {
-        complain(file->path, "answer 22: no book is as long as this file; "
-                             "it is left untouched");
-        return 0;
-    }
-    bytes = read_whole(from, (size_t)status.st_size);
-    if (bytes == NULL) {
-        complain_system(file->path, "cannot read the book");
-        return 0;
-    }
-    done = load_bytes(file->path, bytes, (size_t)status.st_size, book);
-    free(bytes);
-    return done;
-}
-
-/* A missing file is an empty book. */
-int book_file_load(struct book_file *file, struct book *book)
-{
-    int from = open(file->path, O_RDONLY | O_CLOEXEC);
-    int done;
-    book->used[WQ_USED_LINES] = 0;
-    book->used[WQ_USED_SLIPS] = 0;
+    static struct saved old;
+    const char *path = file->files.paths[OWN_OLD];
+    int from = own_files_open(&file->files, OWN_OLD), read;
     if (from < 0 && errno == ENOENT)
         return 1;
     if (from < 0) {
-        complain_system(file->path, "cannot open the book");
+        complain_system(path, "cannot open");
         return 0;
     }
-    done = load_open(file, from, book);
+    read = read_saved(path, from, &old);
     close(from);
-    return done;
+    if (read && !history_knows_book(&file->history, old.digest)) {
+        complain(path, "this is not a book that was saved here, and the name is needed for "
+                       "the book before the last run; move it away");
+        read = 0;
+    }
+    return read;
 }
 
-static int write_whole(int to, const uint8_t *bytes, size_t length)
+/* A book that is taken on purpose is known from now on. */
+static int accept_book(struct book_file *file)
 {
-    while (length > 0) {
-        ssize_t count = write(to, bytes, length);
-        if (count < 0 && errno == EINTR)
-            continue;
-        if (count < 0)
-            return 0;
-        bytes += count;
-        length -= (size_t)count;
+    if (!file->wishes.accept || history_knows_book(&file->history, file->loaded.digest))
+        return 1;
+    return history_add_digest(&file->history, file->loaded.digest) &&
+           history_add_accepted(&file->history, file->loaded.digest) &&
+           history_write_digests(&file->history, &file->files) &&
+           history_write_log(&file->history, &file->files) &&
+           own_files_take(&file->files) == TAKE_DONE;
+}
+
+/* A new book is empty, and its past begins with this run. */
+static int begin_new(struct book_file *file, struct book *book)
+{
+    struct stat status;
+    if (lstat(file->files.paths[OWN_BOOK], &status) == 0) {
+        complain(file->files.paths[OWN_BOOK], "somebody else made this book just now");
+        return 0;
     }
+    return history_read(&file->history, &file->files) && judge_old(file) &&
+           book_file_save_bytes(file, book, &file->loaded) &&
+           history_add_new(&file->history, file->loaded.digest);
+}
+
+/* The book is read before the digests: its own stands there before it takes its name. */
+int book_file_load(struct book_file *file, struct book *book)
+{
+    book->used[WQ_USED_LINES] = 0;
+    book->used[WQ_USED_SLIPS] = 0;
+    if (file->wishes.make_new)
+        return begin_new(file, book);
+    if (!read_book(file) || !history_read(&file->history, &file->files) ||
+        !judge_digest(file) || !load_bytes(file, book))
+        return 0;
+    if (!file->wishes.write)
+        return 1;
+    if (!judge_old(file) || !accept_book(file))
+        return 0;
+    history_judge(&file->history, &file->files, file->loaded.digest);
     return 1;
 }
 
-/* The new book belongs to whom the old one did, as far as the system lets us, and may be
-   read and written by the same people. */
-static int keep_rights(const struct book_file *file, int to)
+int book_file_save_bytes(const struct book_file *file, const struct book *book,
+                         struct saved *saved)
 {
-    if (!file->exists)
-        return 1;
-    if (fchown(to, file->owner, file->group) != 0 && fchown(to, (uid_t)-1, file->group) != 0)
-        errno = 0;              /* not ours to give: the saving clerk owns the new book */
-    return fchmod(to, file->mode) == 0;
-}
-
-/* Writes the new file and makes sure that it is on the disk. What a crash may have left
-   under its name is removed first. */
-static int write_new(const struct book_file *file, const uint8_t *bytes, size_t length)
-{
-    int to, written;
-    unlink(file->new_path);
-    to = open(file->new_path, O_WRONLY | O_CREAT | O_EXCL | O_CLOEXEC, FILE_MODE);
-    if (to < 0) {
-        complain_system(file->new_path, "cannot make the new book");
+    wq_saved result = wq_save(book->lines, sizeof book->lines, book->slips, sizeof book->slips,
+                              book->used, saved->bytes, sizeof saved->bytes);
+    if (result.answer != WQ_DONE) {
+        complain(file->files.paths[OWN_BOOK], words_for(result.answer));
         return 0;
     }
-    written = write_whole(to, bytes, length) && keep_rights(file, to) && fsync(to) == 0;
-    if (!written)
-        complain_system(file->new_path, "cannot write the new book");
-    if (close(to) != 0 && written) {
-        complain_system(file->new_path, "cannot close the new book");
-        written = 0;
-    }
-    if (!written)
-        unlink(file->new_path);
-    return written;
+    saved->length = (size_t)result.length;
+    digest_of(saved->bytes, saved->length, saved->digest);
+    return 1;
 }
 
-/* The new file takes the book's name, and the directory is put on the disk. A file system
-   that cannot do the latter says EINVAL; there is no more to be done then. */
-static enum save_result take_name(const struct book_file *file)
+/* Writes all new files; none has taken its name yet. A book that did not change stays, and
+   so does the one before it. */
+static int write_all(struct book_file *file, const struct saved *saved)
 {
-    enum save_result result = SAVE_DONE;
-    int directory = open(file->directory, O_RDONLY | O_DIRECTORY | O_CLOEXEC);
-    if (directory < 0 || rename(file->new_path, file->path) != 0) {
-        complain_system(file->path, "cannot replace the book");
-        unlink(file->new_path);
-        result = SAVE_FAILED;
-    } else if (fsync(directory) != 0 && errno != EINVAL) {
-        complain_system(file->directory, "cannot put the directory on the disk");
-        result = SAVE_UNCERTAIN;
-    }
-    if (directory >= 0)
-        close(directory);
+    struct own_files *files = &file->files;
+    if (!history_write_log(&file->history, files))
+        return 0;
+    if (!file->wishes.make_new && strcmp(saved->digest, file->loaded.digest) == 0)
+        return 1;
+    if (!file->wishes.make_new &&
+        !own_files_write(files, OWN_OLD, file->loaded.bytes, file->loaded.length))
+        return 0;
+    return history_add_digest(&file->history, saved->digest) &&
+           history_write_digests(&file->history, files) &&
+           own_files_write(files, OWN_BOOK, saved->bytes, saved->length);
+}
+
+enum take_result book_file_save(struct book_file *file, const struct saved *saved)
+{
+    enum take_result result = TAKE_FAILED;
+    if (write_all(file, saved))
+        result = own_files_take(&file->files);
+    if (result != TAKE_FAILED && file->wishes.make_new)
+        complain(file->files.paths[OWN_BOOK], "a new book was made");
     return result;
-}
-
-enum save_result book_file_save(const struct book_file *file, const struct book *book)
-{
-    static uint8_t bytes[LONGEST_SAVE];
-    wq_saved saved = wq_save(book->lines, sizeof book->lines, book->slips, sizeof book->slips,
-                             book->used, bytes, sizeof bytes);
-    if (saved.answer != WQ_DONE) {
-        complain(file->path, words_for(saved.answer));
-        return SAVE_FAILED;
-    }
-    if (!write_new(file, bytes, (size_t)saved.length))
-        return SAVE_FAILED;
-    return take_name(file);
 }
 
 void book_file_leave(struct book_file *file)
 {
+    own_files_leave(&file->files);
+    history_leave(&file->history);
     if (file->lock >= 0)
         close(file->lock);
-    free(file->path);
-    free(file->directory);
-    free(file->new_path);
-    free(file->lock_path);
 }

@@ -1,46 +1,52 @@
-/* The book in memory, and the file in which it is kept between two runs. */
+/* The file in which the book is kept between two runs. */
 #ifndef BOOK_FILE_H
 #define BOOK_FILE_H
 
-#include "wizqamul.h"
+#include "book.h"
+#include "history.h"
 
-#include <sys/types.h>
+/* A full book saved: no file that is longer can be a book for these rooms. */
+enum { LONGEST_SAVE = WQ_SAVE_LENGTH(WQ_MOST_LINES, WQ_MOST_SLIPS) };
 
-/* The book as it is lent to the library. */
-struct book {
-    uint8_t lines[WQ_MOST_LINES * WQ_LINE_WIDTH];
-    uint8_t slips[WQ_MOST_SLIPS * WQ_SLIP_WIDTH];
-    size_t used[WQ_USED_NUMBERS];
+/* A book as saved bytes, and their digest. */
+struct saved {
+    uint8_t bytes[LONGEST_SAVE];
+    size_t length;
+    char digest[DIGEST_ROOM];
 };
 
-/* The names around a book, and what is known of the file that was loaded. */
+/* What the run may do with the book. */
+struct wishes {
+    int make_new;       /* --new: there is no book yet, and one is to be made */
+    int accept;         /* --accept-book: take a book that was not saved here */
+    int write;          /* the run changes the book or what stands beside it */
+};
+
 struct book_file {
-    char *path;         /* the book itself, symbolic links followed */
-    char *directory;    /* the directory it stands in */
-    char *new_path;     /* where a new book is written before it takes the name */
-    char *lock_path;    /* an empty file that a run which books holds locked */
-    int lock;           /* the open lock file, or -1 */
-    int exists;         /* whether there was a file to load; then its owner and mode: */
-    uid_t owner;
-    gid_t group;
-    mode_t mode;
-};
-
-enum save_result {
-    SAVE_FAILED,        /* the old book stands as it was, the new file is removed */
-    SAVE_UNCERTAIN,     /* the new book stands, but may not outlast a power cut */
-    SAVE_DONE
+    struct own_files files;     /* the book's path, symbolic links followed, and the others */
+    struct wishes wishes;
+    struct history history;
+    int lock;                   /* the open lock file, or -1 */
+    struct saved loaded;        /* the book as it was loaded */
 };
 
 /* Each returns 1 where it succeeds; else it has said why on standard error. */
-int book_file_find(struct book_file *file, const char *name);
+int book_file_find(struct book_file *file, const char *name, const struct wishes *wishes);
 int book_file_lock(struct book_file *file);
 int book_file_load(struct book_file *file, struct book *book);
 
-/* Replaces the file by the book. A crash leaves the old book or the new one, never less. */
-enum save_result book_file_save(const struct book_file *file, const struct book *book);
+/* The book in memory as it would be saved. */
+int book_file_save_bytes(const struct book_file *file, const struct book *book,
+                         struct saved *saved);
 
-/* Gives back the names and the lock. */
+/* Replaces the book and what stands beside it. A crash leaves the old book or the new one,
+   never less. What it leaves beside the old book: before any name is taken, nothing but files
+   under names of their own; after the digests, a digest of a book that never was; after the
+   log, lines off the trail, which do not count (see history.h); after BOOK.old, the old book
+   twice. */
+enum take_result book_file_save(struct book_file *file, const struct saved *saved);
+
+/* Gives back the names and the lock, and removes new files that were not needed. */
 void book_file_leave(struct book_file *file);
 
 #endif

@@ -1,6 +1,6 @@
 /* Listing the book by school. */
 #include "listing.h"
-#include "words.h"
+#include "text.h"
 
 #include <inttypes.h>
 #include <stdio.h>
@@ -9,8 +9,13 @@
 
 enum { SCHOOL_WIDTH = WQ_ADDRESS_WIDTH + WQ_QUALIFIER_WIDTH };
 
-#define WHO_FORMAT "  %-13s %-11s %-16s"
-#define NOTE_FORMAT "  %-42s"
+/* Letters of a row before its figures: supplier, reference and article, or one note. */
+enum { SUPPLIER_LETTERS = 14, REFERENCE_LETTERS = 12, ARTICLE_LETTERS = 16,
+       NOTE_LETTERS = SUPPLIER_LETTERS + REFERENCE_LETTERS + ARTICLE_LETTERS };
+
+/* A room is nearly full where one part of this many, or less, is free. */
+enum { NEARLY_FULL = 10, WARNING_ROOM = 100 };
+
 #define FIGURES_FORMAT " %8" PRIu64 " %8" PRIu64 " %8" PRIu64 " %5s %8" PRIu64 " %8" PRIu64 "\n"
 
 /* Sums over several lines, and how many lines they are. */
@@ -20,19 +25,6 @@ static int compare_keys(const void *one, const void *other)
 {
     const uint8_t *const *first = one, *const *second = other;
     return memcmp(*first, *second, WQ_LINE_KEY_WIDTH);
-}
-
-/* The figures come from the library, by the line's own key. */
-static wq_booked figures_of(const struct book *book, const uint8_t *line)
-{
-    return wq_line(line + WQ_LINE_SCHOOL, WQ_ADDRESS_WIDTH,
-                   line + WQ_LINE_SCHOOL_QUALIFIER, WQ_QUALIFIER_WIDTH,
-                   line + WQ_LINE_SUPPLIER, WQ_ADDRESS_WIDTH,
-                   line + WQ_LINE_SUPPLIER_QUALIFIER, WQ_QUALIFIER_WIDTH,
-                   line + WQ_LINE_REFERENCE, WQ_REFERENCE_WIDTH,
-                   line + WQ_LINE_ARTICLE, WQ_ARTICLE_WIDTH,
-                   line + WQ_LINE_ARTICLE_QUALIFIER, WQ_QUALIFIER_WIDTH,
-                   book->lines, sizeof book->lines, book->slips, sizeof book->slips, book->used);
 }
 
 static void add(struct sums *sums, const wq_booked *figures)
@@ -63,14 +55,24 @@ static void with_qualifier(const uint8_t *field, size_t width, char text[2 * TEX
     sprintf(text, "%s %s", first, second);
 }
 
+/* The beginning of a row. */
+static void print_who(const char *supplier, const char *reference, const char *article)
+{
+    printf("  ");
+    print_padded(supplier, SUPPLIER_LETTERS);
+    print_padded(reference, REFERENCE_LETTERS);
+    print_padded(article, ARTICLE_LETTERS);
+}
+
 static void print_line(const uint8_t *line, const wq_booked *figures)
 {
     char supplier[2 * TEXT_ROOM], reference[TEXT_ROOM], article[2 * TEXT_ROOM];
     with_qualifier(line + WQ_LINE_SUPPLIER, WQ_ADDRESS_WIDTH, supplier);
     text_of(line + WQ_LINE_REFERENCE, WQ_REFERENCE_WIDTH, reference);
     with_qualifier(line + WQ_LINE_ARTICLE, WQ_ARTICLE_WIDTH, article);
-    printf(WHO_FORMAT FIGURES_FORMAT, supplier, reference, article, figures->ordered,
-           figures->filled, figures->still_open, mark_of(line), figures->let_go, figures->extra);
+    print_who(supplier, reference, article);
+    printf(FIGURES_FORMAT, figures->ordered, figures->filled, figures->still_open,
+           mark_of(line), figures->let_go, figures->extra);
 }
 
 static void print_sums(const char *what, const struct sums *sums)
@@ -78,8 +80,10 @@ static void print_sums(const char *what, const struct sums *sums)
     char note[TEXT_ROOM];
     snprintf(note, sizeof note, "%s: %" PRIu64 " line%s", what, sums->lines,
              sums->lines == 1 ? "" : "s");
-    printf(NOTE_FORMAT FIGURES_FORMAT, note, sums->ordered, sums->filled, sums->still_open, "",
-           sums->let_go, sums->extra);
+    printf("  ");
+    print_padded(note, NOTE_LETTERS);
+    printf(FIGURES_FORMAT, sums->ordered, sums->filled, sums->still_open, "", sums->let_go,
+           sums->extra);
 }
 
 static void print_head(const uint8_t *line)
@@ -87,8 +91,8 @@ static void print_head(const uint8_t *line)
     char school[2 * TEXT_ROOM];
     with_qualifier(line + WQ_LINE_SCHOOL, WQ_ADDRESS_WIDTH, school);
     printf("\nSchool %s\n", school);
-    printf(WHO_FORMAT " %8s %8s %8s %5s %8s %8s\n", "supplier", "reference", "article",
-           "ordered", "filled", "open", "mark", "let go", "extra");
+    print_who("supplier", "reference", "article");
+    printf(" %8s %8s %8s %5s %8s %8s\n", "ordered", "filled", "open", "mark", "let go", "extra");
 }
 
 /* Prints the lines of one school, which stand together; returns how many they are. */
@@ -99,7 +103,7 @@ static size_t print_school(const struct book *book, const uint8_t *const *sorted
     size_t i;
     print_head(sorted[0]);
     for (i = 0; i < count && memcmp(sorted[i], sorted[0], SCHOOL_WIDTH) == 0; i++) {
-        wq_booked figures = figures_of(book, sorted[i]);
+        wq_booked figures = book_line(book, sorted[i]);
         add(&total, &figures);
         add(all, &figures);
         if (figures.still_open + figures.let_go + figures.extra > 0)
@@ -128,4 +132,21 @@ void print_listing(const struct book *book)
     print_sums("total", &all);
     printf("  used: %zu of %d lines, %zu of %d slips\n", count, WQ_MOST_LINES,
            book->used[WQ_USED_SLIPS], WQ_MOST_SLIPS);
+}
+
+/* One room: how much of it is used, of how many, and what it holds. */
+static void warn_of_room(const char *path, size_t used, size_t most, const char *what)
+{
+    char words[WARNING_ROOM];
+    if ((most - used) * NEARLY_FULL > most)
+        return;
+    snprintf(words, sizeof words, "the book is nearly full: %zu of %zu %s are left", most - used,
+             most, what);
+    complain(path, words);
+}
+
+void warn_of_full_rooms(const char *path, const struct book *book)
+{
+    warn_of_room(path, book->used[WQ_USED_LINES], WQ_MOST_LINES, "lines");
+    warn_of_room(path, book->used[WQ_USED_SLIPS], WQ_MOST_SLIPS, "slips");
 }

@@ -2,10 +2,13 @@
 #ifndef LISTING_H
 #define LISTING_H
 
-#include "book_file.h"
+#include "book.h"
 
 /* Prints the book grouped by school: each line that has copies open, let go or extra, the
    complete lines as one row, and a total. */
 void print_listing(const struct book *book);
+
+/* Says on standard error where a tenth or less of a room is left. */
+void warn_of_full_rooms(const char *path, const struct book *book);
 
 #endif

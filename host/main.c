@@ -1,24 +1,33 @@
 /* wizqamul-host: books files of records into a book and lists what is still open.
  *
- *   wizqamul-host BOOK FILE...   books the records of each FILE in order, saves, lists
- *   wizqamul-host BOOK           books nothing and lists; it writes and locks nothing
+ *   wizqamul-host [OPTION..] BOOK FILE..   books the records of each FILE in order, saves, lists
+ *   wizqamul-host BOOK                     books nothing and lists; it writes and locks nothing
  *
- * BOOK is a file that holds a saved book; a missing file is an empty book. `-` as FILE is
- * standard input. Nothing is booked unless every FILE can be opened, and nothing is saved
- * unless every FILE was read to its end and every answer was printed.
+ * BOOK is a file that holds a saved book. `-` as FILE is standard input. Nothing is booked
+ * unless every FILE was read to its end, and nothing is saved unless every answer was printed.
+ * A FILE whose bytes were booked into this book before is named and left out.
+ *
+ * Options, before BOOK:
+ *   --new           makes a new book, with or without a FILE; there must be none yet
+ *   --accept-book   takes a book that was not saved here as it stands, now and from now on
+ *   --again         books a FILE whose bytes were booked before
  *
  * Exit codes:
  *   0  done; each record was booked, or needs no booking (answers 13 and 17)
- *   1  done and saved, but somebody should look at a record that was refused
+ *   1  done and saved, but somebody should look: a record was refused, or a FILE left out
+ *      since it was booked before
  *   2  wrong use, or trouble with a file; the book stands as it was before the run
  *   3  the book is saved, but what comes after that went wrong (see standard error)
+ *
+ * Beside BOOK stand BOOK.old (the book before the last run that changed it), BOOK.digests,
+ * BOOK.log (see history.h) and BOOK.lock. A killed run may leave a file .wizqamul-new-*.
  */
 #define _XOPEN_SOURCE 700
 
-#include "book_file.h"
+#include "booking.h"
 #include "listing.h"
 #include "records.h"
-#include "words.h"
+#include "text.h"
 
 #include <fcntl.h>
 #include <signal.h>
@@ -28,159 +37,214 @@
 
 enum exit_code { ALL_BOOKED = 0, SOME_REFUSED = 1, NOT_SAVED = 2, TROUBLE_AFTER_SAVE = 3 };
 
-enum { FIRST_FILE = 2 };
+/* What was asked for. */
+struct request {
+    struct wishes wishes;
+    int again;
+    char *book;
+    char **names;           /* the FILEs */
+    int count;
+};
 
 static int usage(void)
 {
-    fprintf(stderr, "usage: " PROGRAM " BOOK [FILE...]\n"
-                    "Books the records of each FILE (- is standard input) into BOOK, saves it,\n"
-                    "and lists what is still open for each school.\n"
-                    "Exit codes: 0 done, 1 some records refused, 2 nothing saved,\n"
-                    "3 saved, but trouble after that.\n");
+    fprintf(stderr, "usage: " PROGRAM " [--new] [--accept-book] [--again] BOOK [FILE..]\n"
+            "Books the records of each FILE (- is standard input) into BOOK, saves it,\n"
+            "and lists what is still open for each school.\n"
+            "  --new          make a new book\n"
+            "  --accept-book  take a book that was not saved here as it stands\n"
+            "  --again        book a FILE whose bytes were booked before\n"
+            "Exit codes: 0 done, 1 done but some records refused or a FILE left out,\n"
+            "2 nothing saved, 3 saved, but trouble after that.\n");
     return NOT_SAVED;
 }
 
-/* A closed standard stream would be opened again as some file, and be written to. */
+/* A closed standard stream would be opened again as some file, and be written to. It is said
+   on a stream that is open. */
 static int streams_are_open(void)
 {
-    for (int stream = STDIN_FILENO; stream <= STDERR_FILENO; stream++)
-        if (fcntl(stream, F_GETFD) == -1)
-            return 0;
-    return 1;
+    static const char *const streams[] = {"standard input", "standard output", "standard error"};
+    int all = 1;
+    if (fcntl(STDERR_FILENO, F_GETFD) == -1)
+        complain_on(stdout);
+    for (int stream = STDIN_FILENO; stream <= STDERR_FILENO; stream++) {
+        if (fcntl(stream, F_GETFD) == -1) {
+            complain(streams[stream], "it is closed; nothing was done");
+            all = 0;
+        }
+    }
+    return all;
 }
 
-/* The names given: a book, and standard input at most once. */
-static int arguments_are_fine(int count, char **names)
+/* Sets what an option asks for; 0 where there is no such option. */
+static int take_option(struct request *request, const char *option)
 {
-    int dashes = 0;
-    if (count < FIRST_FILE || names[1][0] == '-' || names[1][0] == '\0')
+    const struct { const char *name; int *wish; } options[] = {
+        {"--new", &request->wishes.make_new},
+        {"--accept-book", &request->wishes.accept},
+        {"--again", &request->again}
+    };
+    for (size_t i = 0; i < sizeof options / sizeof options[0]; i++)
+        if (strcmp(option, options[i].name) == 0)
+            return *options[i].wish = 1;
+    return 0;
+}
+
+/* The arguments: options, a book, and files, standard input at most once among them. */
+static int take_arguments(struct request *request, int count, char **arguments)
+{
+    int at = 1, dashes = 0;
+    memset(request, 0, sizeof *request);
+    while (at < count && strncmp(arguments[at], "--", 2) == 0)
+        if (!take_option(request, arguments[at++]))
+            return 0;
+    if (at == count || arguments[at][0] == '-' || arguments[at][0] == '\0')
         return 0;
-    for (int i = FIRST_FILE; i < count; i++)
-        dashes += strcmp(names[i], "-") == 0;
+    request->book = arguments[at++];
+    request->names = arguments + at;
+    request->count = count - at;
+    request->wishes.write = request->count > 0 || request->wishes.make_new ||
+                            request->wishes.accept;
+    for (; at < count; at++) {
+        dashes += strcmp(arguments[at], "-") == 0;
+        if (strncmp(arguments[at], "--", 2) == 0)
+            return 0;
+    }
     return dashes <= 1;
 }
 
 /* What was printed so far is handed to the system. */
 static int output_is_out(void)
 {
-    if (fflush(stdout) == 0 && !ferror(stdout))
+    if (fflush(stdout) != 0)
+        complain_system("standard output", "cannot write");
+    else if (ferror(stdout))
+        complain("standard output", "not all could be written");
+    else
         return 1;
-    complain_system("standard output", "cannot write");
     return 0;
 }
 
-/* How many records came to which end. */
-struct tally { unsigned long booked, no_need, refused; };
-
-static void count_answer(struct tally *tally, uint64_t answer)
+static int is_own(const struct own_files *own, int stream)
 {
-    if (answer == WQ_DONE)
-        tally->booked++;
-    else if (answer == WQ_NOTHING_TO_BOOK || answer == WQ_SLIP_REPEATED)
-        tally->no_need++;
-    else
-        tally->refused++;
+    struct stat status;
+    return fstat(stream, &status) == 0 && own_files_which(own, &status) != NULL;
 }
 
-/* Books one file. Returns 0 where it could not be read to its end. */
-static int book_one(FILE *file, const char *name, struct book *book, struct tally *tally)
+/* Standard output and standard error must not be a file of the book. It is said on the one
+   that is not. */
+static int streams_are_others(const struct own_files *own, const char *book)
 {
-    static struct record record;
-    enum next_result next;
-    unsigned long number = 0;
-    while ((next = records_next(file, &record)) == NEXT_RECORD) {
-        wq_booked booked = wq_book(record.bytes, record.length, book->lines, sizeof book->lines,
-                                   book->slips, sizeof book->slips, book->used);
-        print_answer(name, ++number, &record, &booked);
-        count_answer(tally, booked.answer);
-    }
-    if (next == NEXT_FAILED)
-        complain_system(name, "cannot read to the end");
-    return next == NEXT_END;
+    int out = is_own(own, STDOUT_FILENO), err = is_own(own, STDERR_FILENO);
+    if (err)
+        complain_on(stdout);
+    if (out != err)
+        complain(book, "standard output or standard error is a file of this book; "
+                       "nothing was done");
+    return !out && !err;
+}
+
+/* Reads all files before anything is booked; returns how many it could read. */
+static int read_all(struct input *inputs, const struct request *request,
+                    const struct own_files *own)
+{
+    size_t left = MOST_INPUT;
+    int done = 0;
+    while (done < request->count && input_read(&inputs[done], request->names[done], own, &left))
+        done++;
+    return done;
 }
 
 /* Locks and loads the book, books all files, saves. */
-static enum exit_code book_all(struct book_file *file, struct book *book, FILE **files,
-                               char **names, int count)
+static enum exit_code book_all(struct book_file *file, struct book *book, struct input *inputs,
+                               int count, struct booking *booking)
 {
-    struct tally tally = {0, 0, 0};
-    enum save_result saved;
-    if (!book_file_lock(file) || !book_file_load(file, book))
+    static struct saved saved;
+    enum take_result taken;
+    if (!book_file_lock(file) || !book_file_load(file, book) ||
+        !booking_run(booking, file, book, inputs, count, &saved) || !output_is_out())
         return NOT_SAVED;
-    for (int i = 0; i < count; i++)
-        if (!book_one(files[i], names[i], book, &tally))
-            return NOT_SAVED;
-    printf("records: %lu booked, %lu with nothing to book, %lu refused\n", tally.booked,
-           tally.no_need, tally.refused);
-    if (!output_is_out())
+    taken = book_file_save(file, &saved);
+    if (taken == TAKE_FAILED)
         return NOT_SAVED;
-    saved = book_file_save(file, book);
-    if (saved == SAVE_FAILED)
-        return NOT_SAVED;
-    if (saved == SAVE_UNCERTAIN)
+    booking_print_tally(booking);
+    if (taken == TAKE_UNCERTAIN)
         return TROUBLE_AFTER_SAVE;
-    return tally.refused > 0 ? SOME_REFUSED : ALL_BOOKED;
+    return booking->all.refused + booking->left_out > 0 ? SOME_REFUSED : ALL_BOOKED;
 }
 
-/* Opens all files before anything is booked; returns how many it could open. */
-static int open_all(FILE **files, char **names, int count)
+/* The last word of a run that failed, on both streams. */
+static enum exit_code end_unsaved(const struct book_file *file)
 {
-    int opened = 0;
-    while (opened < count && (files[opened] = records_open(names[opened])) != NULL)
-        opened++;
-    return opened;
+    if (file->wishes.write) {
+        complain(file->files.paths[OWN_BOOK], "nothing was saved");
+        printf("nothing was saved: the book stands as it was before this run\n");
+    }
+    fflush(stdout);
+    return NOT_SAVED;
 }
 
-/* The run with the book's names found. */
-static enum exit_code run(struct book_file *file, FILE **files, char **names, int count)
+/* The run with the book's names found and all files read. */
+static enum exit_code run(struct book_file *file, struct input *inputs,
+                          const struct request *request)
 {
     static struct book book;
+    struct booking booking = {request->again, {0, 0, 0}, 0, NULL, NULL, 0};
     enum exit_code code;
-    if (count == 0)
-        code = book_file_load(file, &book) ? ALL_BOOKED : NOT_SAVED;
+    if (file->wishes.write)
+        code = book_all(file, &book, inputs, request->count, &booking);
     else
-        code = book_all(file, &book, files, names, count);
+        code = book_file_load(file, &book) ? ALL_BOOKED : NOT_SAVED;
     if (code == NOT_SAVED) {
-        if (count > 0)
-            complain(file->path, "nothing was saved");
-        fflush(stdout);
-        return NOT_SAVED;
+        booking_leave(&booking);
+        return end_unsaved(file);
     }
     print_listing(&book);
+    booking_print_refused(&booking);
+    booking_leave(&booking);
+    warn_of_full_rooms(file->files.paths[OWN_BOOK], &book);
     if (!output_is_out())
-        code = count > 0 ? TROUBLE_AFTER_SAVE : NOT_SAVED;
+        code = file->wishes.write ? TROUBLE_AFTER_SAVE : NOT_SAVED;
     if (code == TROUBLE_AFTER_SAVE)
-        complain(file->path, "the book is saved");
+        complain(file->files.paths[OWN_BOOK], "the book is saved");
+    return code;
+}
+
+/* Reads the files and runs. */
+static enum exit_code read_and_run(struct book_file *file, const struct request *request)
+{
+    struct input *inputs = calloc((size_t)request->count + 1, sizeof *inputs);
+    enum exit_code code = NOT_SAVED;
+    int count;
+    if (inputs == NULL) {
+        complain("memory", "there is not enough");
+        return NOT_SAVED;
+    }
+    count = read_all(inputs, request, &file->files);
+    if (count == request->count)
+        code = run(file, inputs, request);
+    else
+        complain(request->book, "nothing was booked, since not every file could be read");
+    for (int i = 0; i < request->count; i++)
+        input_leave(&inputs[i]);
+    free(inputs);
     return code;
 }
 
 int main(int argument_count, char **arguments)
 {
-    struct book_file file;
+    static struct book_file file;
+    struct request request;
     enum exit_code code = NOT_SAVED;
-    int count = argument_count - FIRST_FILE, opened;
-    FILE **files;
     if (!streams_are_open())
         return NOT_SAVED;
-    if (!arguments_are_fine(argument_count, arguments))
+    if (!take_arguments(&request, argument_count, arguments))
         return usage();
     signal(SIGPIPE, SIG_IGN);       /* a failed write is an error that we report, */
     signal(SIGXFSZ, SIG_IGN);       /* and not the end of the program */
-    files = calloc((size_t)count + 1, sizeof *files);
-    if (files == NULL) {
-        complain("memory", "there is not enough");
-        return NOT_SAVED;
-    }
-    opened = open_all(files, arguments + FIRST_FILE, count);
-    if (opened == count) {
-        if (book_file_find(&file, arguments[1]))
-            code = run(&file, files, arguments + FIRST_FILE, count);
-        book_file_leave(&file);
-    } else {
-        complain(arguments[1], "nothing was booked, since not every file could be opened");
-    }
-    while (opened > 0)
-        fclose(files[--opened]);
-    free(files);
+    if (book_file_find(&file, request.book, &request.wishes) &&
+        streams_are_others(&file.files, request.book))
+        code = read_and_run(&file, &request);
+    book_file_leave(&file);
     return code;
 }

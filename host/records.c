@@ -1,49 +1,95 @@
-/* Cutting a file into records. */
+/* Reading files and cutting them into records. */
 #define _XOPEN_SOURCE 700
 
 #include "records.h"
-#include "words.h"
+#include "text.h"
 
+#include <errno.h>
+#include <fcntl.h>
+#include <stdlib.h>
 #include <string.h>
-#include <sys/stat.h>
+#include <unistd.h>
 
-/* A directory can be opened but not read, so it is refused here, before anything is booked. */
-FILE *records_open(const char *name)
+enum { END_WIDTH = 2 };         /* CR LF */
+
+/* What cannot be read as records is refused before anything is booked. */
+static int judge_input(const char *name, int from, const struct own_files *own)
 {
-    FILE *file = strcmp(name, "-") == 0 ? stdin : fopen(name, "rb");
     struct stat status;
-    if (file == NULL) {
-        complain_system(name, "cannot open");
-        return NULL;
+    const char *mine;
+    if (fstat(from, &status) != 0) {
+        complain_system(name, "cannot look at the file");
+        return 0;
     }
-    if (fstat(fileno(file), &status) == 0 && S_ISDIR(status.st_mode)) {
+    if (S_ISDIR(status.st_mode)) {
         complain(name, "cannot read: it is a directory");
-        fclose(file);
-        return NULL;
+        return 0;
     }
-    return file;
+    mine = own_files_which(own, &status);
+    if (mine == NULL)
+        return 1;
+    complain(name, "this is the book or a file that belongs to it, and no file of records:");
+    complain(mine, "is the same file");
+    return 0;
 }
 
-static void keep(struct record *record, int byte)
+/* Reads what is open. */
+static int read_open(struct input *input, int from, const struct own_files *own, size_t *left)
 {
-    if (record->length < KEPT_BYTES)
-        record->bytes[record->length++] = (uint8_t)byte;
+    if (!judge_input(input->name, from, own))
+        return 0;
+    if (!whole_read(from, *left, &input->bytes)) {
+        complain_system(input->name, "cannot read to the end");
+        return 0;
+    }
+    *left -= input->bytes.length;
+    digest_of(input->bytes.start, input->bytes.length, input->digest);
+    return 1;
 }
 
-enum next_result records_next(FILE *file, struct record *record)
+int input_read(struct input *input, const char *name, const struct own_files *own, size_t *left)
 {
-    int byte;
-    record->length = 0;
-    while ((byte = getc(file)) != EOF) {
-        if (byte == '\r') {
-            int after = getc(file);
-            if (after == '\n')
-                return NEXT_RECORD;
-            ungetc(after, file);    /* nothing happens where it is the end */
-        }
-        keep(record, byte);
+    int standard = strcmp(name, "-") == 0, done;
+    int from = standard ? STDIN_FILENO : open(name, O_RDONLY | O_CLOEXEC);
+    memset(input, 0, sizeof *input);
+    input->name = name;
+    if (from < 0) {
+        complain_system(name, "cannot open");
+        return 0;
     }
-    if (ferror(file))
-        return NEXT_FAILED;
-    return record->length > 0 ? NEXT_RECORD : NEXT_END;
+    done = read_open(input, from, own, left);
+    if (!standard)
+        close(from);
+    return done;
+}
+
+/* Where the next CR LF stands from a place on, or the end of the file. */
+static size_t next_end(const struct bytes *bytes, size_t from)
+{
+    while (from < bytes->length &&
+           !(bytes->start[from] == '\r' && bytes->start[from + 1] == '\n'))
+        from++;
+    return from;
+}
+
+int input_next(struct input *input, struct record *record)
+{
+    size_t end = next_end(&input->bytes, input->at);
+    if (input->at >= input->bytes.length)
+        return 0;
+    record->bytes = input->bytes.start + input->at;
+    record->length = end - input->at;
+    input->at = end + END_WIDTH;
+    return 1;
+}
+
+int input_lacks_ends(const struct input *input)
+{
+    return input->bytes.length > 0 &&
+           next_end(&input->bytes, 0) == input->bytes.length;
+}
+
+void input_leave(struct input *input)
+{
+    free(input->bytes.start);
 }

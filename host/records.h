@@ -2,26 +2,37 @@
 #ifndef RECORDS_H
 #define RECORDS_H
 
-#include "wizqamul.h"
+#include "digest.h"
+#include "own_files.h"
 
-#include <stdio.h>
+/* A file that was read whole, and how far it was cut into records. */
+struct input {
+    const char *name;
+    struct bytes bytes;
+    size_t at;                  /* where the next record starts */
+    char digest[DIGEST_ROOM];
+};
 
-/* One byte more than a record may have: what is longer is answer 1 whatever follows. */
-enum { KEPT_BYTES = WQ_MOST_RECORD + 1 };
-
+/* A record is a part of its file, without its CR LF. */
 struct record {
-    uint8_t bytes[KEPT_BYTES];
+    const uint8_t *bytes;
     size_t length;
 };
 
-enum next_result { NEXT_RECORD, NEXT_END, NEXT_FAILED };
+/* All files of a run together hold at most this many bytes. */
+enum { MOST_INPUT = 1 << 26 };
 
-/* Opens a file for reading; `-` is standard input. NULL, and the reason on standard error,
-   where it cannot be read. */
-FILE *records_open(const char *name);
+/* Reads a file whole; `-` is standard input. Files of the book itself are refused. Takes
+   what it reads from `*left`. Returns 0, and has said why, where it cannot. */
+int input_read(struct input *input, const char *name, const struct own_files *own, size_t *left);
 
-/* Gives the next record. Bytes after the last CR LF are one more record; a lone CR or LF
-   is a byte of the record. */
-enum next_result records_next(FILE *file, struct record *record);
+/* Gives the next record; 0 at the end. Bytes after the last CR LF are one more record; a
+   lone CR or LF is a byte of the record. */
+int input_next(struct input *input, struct record *record);
+
+/* Whether the file holds bytes, but no CR LF at all. */
+int input_lacks_ends(const struct input *input);
+
+void input_leave(struct input *input);
 
 #endif

@@ -1,11 +1,15 @@
-/* Answers, fields and errors in words. */
+/* What the program says about a record. */
 #include "words.h"
+#include "text.h"
 
-#include <errno.h>
 #include <inttypes.h>
 #include <string.h>
 
-enum { LAST_ANSWER = WQ_TOO_SMALL, FIRST_ASCII = ' ', LAST_ASCII = '~' };
+enum {
+    LAST_ANSWER = WQ_TOO_SMALL,
+    QUANTITY_WIDTH = 4,
+    ORDER_REFERENCE = 36        /* where the reference stands in a B101 */
+};
 
 static const char *const answer_words[LAST_ANSWER + 1] = {
     "done",
@@ -34,52 +38,52 @@ static const char *const answer_words[LAST_ANSWER + 1] = {
     "the room is too small"
 };
 
+/* How a field is told where a record is named. */
+enum telling {
+    UNTOLD,
+    TOLD,           /* with its name */
+    BEHIND          /* right behind the field before it, as a qualifier is */
+};
+
 /* The fixed fields of each kind, in order. */
-struct field { const char *name; size_t width; };
+struct field { const char *name; size_t width; enum telling telling; };
 
 static const struct field order_fields[] = {
-    {"kind", WQ_KIND_WIDTH}, {"school", WQ_ADDRESS_WIDTH}, {"school qualifier", WQ_QUALIFIER_WIDTH},
-    {"supplier", WQ_ADDRESS_WIDTH}, {"supplier qualifier", WQ_QUALIFIER_WIDTH},
-    {"date", WQ_DATE_WIDTH}, {"reference", WQ_REFERENCE_WIDTH}, {"article", WQ_ARTICLE_WIDTH},
-    {"article qualifier", WQ_QUALIFIER_WIDTH}, {"quantity", 4}, {"order qualifier", 2},
-    {NULL, 0}
+    {"kind", WQ_KIND_WIDTH, UNTOLD},
+    {"school", WQ_ADDRESS_WIDTH, TOLD}, {"school qualifier", WQ_QUALIFIER_WIDTH, BEHIND},
+    {"supplier", WQ_ADDRESS_WIDTH, TOLD}, {"supplier qualifier", WQ_QUALIFIER_WIDTH, BEHIND},
+    {"date", WQ_DATE_WIDTH, UNTOLD}, {"reference", WQ_REFERENCE_WIDTH, TOLD},
+    {"article", WQ_ARTICLE_WIDTH, TOLD}, {"article qualifier", WQ_QUALIFIER_WIDTH, BEHIND},
+    {"quantity", QUANTITY_WIDTH, TOLD}, {"order qualifier", WQ_QUALIFIER_WIDTH, UNTOLD},
+    {NULL, 0, UNTOLD}
 };
 
 static const struct field delivery_fields[] = {
-    {"kind", WQ_KIND_WIDTH}, {"supplier", WQ_ADDRESS_WIDTH},
-    {"supplier qualifier", WQ_QUALIFIER_WIDTH}, {"school", WQ_ADDRESS_WIDTH},
-    {"school qualifier", WQ_QUALIFIER_WIDTH}, {"date", WQ_DATE_WIDTH},
-    {"slip number", WQ_SLIP_NUMBER_WIDTH}, {"position", WQ_POSITION_WIDTH},
-    {"reference", WQ_REFERENCE_WIDTH}, {"article", WQ_ARTICLE_WIDTH},
-    {"article qualifier", WQ_QUALIFIER_WIDTH}, {"quantity", 4}, {"price", 15},
-    {"price qualifier", 2}, {"currency", 3}, {"discount", 8}, {"tax mark", 1}, {NULL, 0}
+    {"kind", WQ_KIND_WIDTH, UNTOLD},
+    {"supplier", WQ_ADDRESS_WIDTH, TOLD}, {"supplier qualifier", WQ_QUALIFIER_WIDTH, BEHIND},
+    {"school", WQ_ADDRESS_WIDTH, TOLD}, {"school qualifier", WQ_QUALIFIER_WIDTH, BEHIND},
+    {"date", WQ_DATE_WIDTH, TOLD}, {"slip number", WQ_SLIP_NUMBER_WIDTH, TOLD},
+    {"position", WQ_POSITION_WIDTH, TOLD}, {"reference", WQ_REFERENCE_WIDTH, TOLD},
+    {"article", WQ_ARTICLE_WIDTH, TOLD}, {"article qualifier", WQ_QUALIFIER_WIDTH, BEHIND},
+    {"quantity", QUANTITY_WIDTH, TOLD}, {"price", 15, UNTOLD}, {"price qualifier", 2, UNTOLD},
+    {"currency", 3, UNTOLD}, {"discount", 8, UNTOLD}, {"tax mark", 1, UNTOLD},
+    {NULL, 0, UNTOLD}
 };
 
 static const struct field report_fields[] = {
-    {"kind", WQ_KIND_WIDTH}, {"supplier", WQ_ADDRESS_WIDTH},
-    {"supplier qualifier", WQ_QUALIFIER_WIDTH}, {"school", WQ_ADDRESS_WIDTH},
-    {"school qualifier", WQ_QUALIFIER_WIDTH}, {"slip number", WQ_SLIP_NUMBER_WIDTH},
-    {"reference", WQ_REFERENCE_WIDTH}, {"article", WQ_ARTICLE_WIDTH},
-    {"article qualifier", WQ_QUALIFIER_WIDTH}, {"message", 3}, {"hold mark", 1},
-    {"expected date", WQ_DATE_WIDTH}, {"partial quantity", 4}, {NULL, 0}
+    {"kind", WQ_KIND_WIDTH, UNTOLD},
+    {"supplier", WQ_ADDRESS_WIDTH, TOLD}, {"supplier qualifier", WQ_QUALIFIER_WIDTH, BEHIND},
+    {"school", WQ_ADDRESS_WIDTH, TOLD}, {"school qualifier", WQ_QUALIFIER_WIDTH, BEHIND},
+    {"slip number", WQ_SLIP_NUMBER_WIDTH, TOLD}, {"reference", WQ_REFERENCE_WIDTH, TOLD},
+    {"article", WQ_ARTICLE_WIDTH, TOLD}, {"article qualifier", WQ_QUALIFIER_WIDTH, BEHIND},
+    {"message", 3, TOLD}, {"hold mark", 1, TOLD}, {"expected date", WQ_DATE_WIDTH, TOLD},
+    {"partial quantity", QUANTITY_WIDTH, UNTOLD},
+    {NULL, 0, UNTOLD}
 };
 
 const char *words_for(uint64_t answer)
 {
     return answer <= LAST_ANSWER ? answer_words[answer] : "unknown answer";
-}
-
-void text_of(const uint8_t *field, size_t width, char text[TEXT_ROOM])
-{
-    while (width > 0 && field[width - 1] == ' ')
-        width--;
-    for (size_t i = 0; i < width; i++) {
-        if (field[i] >= FIRST_ASCII && field[i] <= LAST_ASCII && field[i] != '\\')
-            *text++ = (char)field[i];
-        else
-            text += sprintf(text, "\\x%02X", (unsigned)field[i]);
-    }
-    *text = '\0';
 }
 
 /* The fields of a record of known kind. */
@@ -92,70 +96,119 @@ static const struct field *fields_of(const struct record *record)
     }
 }
 
-/* What is wrong in a record that cannot be read: where, and for 5 in which field. */
-static void print_place(const struct record *record, const wq_booked *booked)
+/* The name of the fixed field that starts at a place. */
+static const char *field_at(const struct record *record, uint64_t place)
 {
     const struct field *field = fields_of(record);
     size_t start = 0;
-    if (booked->answer == WQ_FIXED_FIELD) {
-        while (field[1].name != NULL && start < booked->place)
-            start += (field++)->width;
-        printf(": %s", field->name);
-    }
-    printf(" (place %" PRIu64 ")", booked->place);
-}
-
-static void print_field(const struct record *record, const char *name)
-{
-    const struct field *field = fields_of(record);
-    const uint8_t *start = record->bytes;
-    char text[TEXT_ROOM];
-    while (strcmp(field->name, name) != 0)
+    while (field[1].name != NULL && start < place)
         start += (field++)->width;
-    text_of(start, field->width, text);
-    if (text[0] != '\0')
-        printf(" %s", text);
+    return field->name;
 }
 
-/* A record that could be read: whose order it is about. */
-static void print_key(const struct record *record)
+/* Some bytes of the record as text, after a word. */
+static void print_bytes(FILE *to, const char *word, const struct record *record, size_t place,
+                        size_t width)
 {
-    printf(" |");
-    print_field(record, "school");
-    print_field(record, "supplier");
-    print_field(record, "reference");
-    print_field(record, "article");
+    char text[TEXT_ROOM];
+    if (place > record->length)
+        place = record->length;
+    if (width > record->length - place)
+        width = record->length - place;
+    text_of(record->bytes + place, width, text);
+    fprintf(to, "%s %s", word, text[0] == '\0' ? "blank" : text);
 }
 
-static void print_figures(const wq_booked *booked)
+/* What is wrong in a record that cannot be read: what stands there, and where. */
+static void print_fault(FILE *to, const struct record *record, const wq_booked *booked)
 {
-    printf(" | ordered %" PRIu64 ", filled %" PRIu64 ", open %" PRIu64
-           ", let go %" PRIu64 ", extra %" PRIu64, booked->ordered, booked->filled,
-           booked->still_open, booked->let_go, booked->extra);
+    size_t place = (size_t)booked->place;
+    switch (booked->answer) {
+    case WQ_TOO_LONG:
+        fprintf(to, ": %zu bytes", record->length);
+        break;
+    case WQ_UNKNOWN_KIND:
+        print_bytes(to, ":", record, place, WQ_KIND_WIDTH);
+        break;
+    case WQ_BYTE_NOT_ALLOWED:
+        fprintf(to, ": byte %u", (unsigned)record->bytes[place]);
+        break;
+    case WQ_FIXED_FIELD:
+        fprintf(to, ": %s", field_at(record, place));
+        break;
+    case WQ_CONTENT:
+    case WQ_GROUP:
+        print_bytes(to, ": field", record, place, WQ_FIELD_HEAD);
+        break;
+    }
+    fprintf(to, " (place %" PRIu64 ")", booked->place);
 }
 
-void print_answer(const char *name, unsigned long number, const struct record *record,
-                  const wq_booked *booked)
+/* The fields that name what a record is about. The record has its whole fixed part. */
+static void print_fields(FILE *to, const struct record *record)
+{
+    const char *before = " |";
+    size_t place = 0;
+    for (const struct field *field = fields_of(record); field->name != NULL; field++) {
+        if (field->telling == TOLD) {
+            fprintf(to, "%s %s", before, field->name);
+            before = ",";
+        }
+        if (field->telling == TOLD || (field->telling == BEHIND && record->bytes[place] != ' '))
+            print_bytes(to, "", record, place, field->width);
+        place += field->width;
+    }
+}
+
+/* The quantity of the line that has an order's key already. A B101 holds the key in two
+   parts: the parties behind its kind, and all from the reference on. */
+static void print_line_booked(FILE *to, const struct record *record, const struct book *book)
+{
+    uint8_t key[WQ_LINE_KEY_WIDTH];
+    memcpy(key, record->bytes + WQ_KIND_WIDTH, WQ_LINE_REFERENCE);
+    memcpy(key + WQ_LINE_REFERENCE, record->bytes + ORDER_REFERENCE,
+           WQ_LINE_KEY_WIDTH - WQ_LINE_REFERENCE);
+    fprintf(to, " | in the book: quantity %04" PRIu64, book_line(book, key).ordered);
+}
+
+/* What the slip was booked with that has a delivery's slip key already. */
+static void print_slip_booked(FILE *to, const struct record *record, const struct book *book)
+{
+    const uint8_t *slip = book_slip(book, record->bytes + WQ_KIND_WIDTH), *line;
+    char reference[TEXT_ROOM], article[TEXT_ROOM], qualifier[TEXT_ROOM];
+    if (slip == NULL)
+        return;
+    line = book_line_of_slip(book, slip);
+    text_of(line + WQ_LINE_REFERENCE, WQ_REFERENCE_WIDTH, reference);
+    text_of(line + WQ_LINE_ARTICLE, WQ_ARTICLE_WIDTH, article);
+    text_of(line + WQ_LINE_ARTICLE_QUALIFIER, WQ_QUALIFIER_WIDTH, qualifier);
+    fprintf(to, " | in the book: reference %s, article %s %s, quantity %04u", reference, article,
+            qualifier, book_copies_of_slip(slip));
+}
+
+static void print_figures(FILE *to, const wq_booked *booked)
+{
+    fprintf(to, " | ordered %" PRIu64 ", filled %" PRIu64 ", open %" PRIu64
+            ", let go %" PRIu64 ", extra %" PRIu64, booked->ordered, booked->filled,
+            booked->still_open, booked->let_go, booked->extra);
+}
+
+void print_answer(FILE *to, const char *name, unsigned long number, const struct record *record,
+                  const wq_booked *booked, const struct book *book)
 {
     int known = booked->answer != WQ_TOO_LONG && booked->answer != WQ_UNKNOWN_KIND;
-    printf("%s:%lu %.*s %" PRIu64 " %s", name, number, known ? WQ_KIND_WIDTH : 1,
-           known ? (const char *)record->bytes : "?", booked->answer, words_for(booked->answer));
-    if (known && booked->answer != WQ_DONE && booked->answer <= WQ_GROUP)
-        print_place(record, booked);
-    else if (known)
-        print_key(record);
-    if (booked->answer == WQ_DONE)
-        print_figures(booked);
-    putchar('\n');
-}
-
-void complain(const char *subject, const char *trouble)
-{
-    fprintf(stderr, PROGRAM ": %s: %s\n", subject, trouble);
-}
-
-void complain_system(const char *subject, const char *trouble)
-{
-    const char *reason = strerror(errno);
-    fprintf(stderr, PROGRAM ": %s: %s: %s\n", subject, trouble, reason);
+    print_name(to, name);
+    fprintf(to, ":%lu %.*s %" PRIu64 " %s", number, known ? WQ_KIND_WIDTH : 1,
+            known ? (const char *)record->bytes : "?", booked->answer, words_for(booked->answer));
+    if (booked->answer != WQ_DONE && booked->answer <= WQ_GROUP)
+        print_fault(to, record, booked);
+    if (known && booked->answer != WQ_TOO_SHORT)
+        print_fields(to, record);
+    if (booked->answer == WQ_LINE_EXISTS)
+        print_line_booked(to, record, book);
+    else if (booked->answer == WQ_SLIP_DIFFERS)
+        print_slip_booked(to, record, book);
+    else if (booked->answer == WQ_DONE)
+        print_figures(to, booked);
+    fputc('\n', to);
 }

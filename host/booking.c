@@ -1,0 +1,123 @@
+/* Booking files, and telling what became of their records. */
+#define _XOPEN_SOURCE 700
+
+#include "booking.h"
+#include "text.h"
+#include "words.h"
+
+#include <stdlib.h>
+#include <string.h>
+
+enum {
+    MOST_REPEATED = 1000,       /* refused records that are told again at the end */
+    WHEN_WIDTH = 20,            /* the time at the start of a log line */
+    NOTE_ROOM = 120
+};
+
+static void count_answer(struct tally *tally, uint64_t answer)
+{
+    if (answer == WQ_DONE)
+        tally->booked++;
+    else if (answer == WQ_NOTHING_TO_BOOK || answer == WQ_SLIP_REPEATED)
+        tally->no_need++;
+    else
+        tally->refused++;
+}
+
+static void add_tally(struct tally *all, const struct tally *tally)
+{
+    all->booked += tally->booked;
+    all->no_need += tally->no_need;
+    all->refused += tally->refused;
+}
+
+/* Books the records of one file. */
+static struct tally book_records(struct booking *booking, struct book *book, struct input *input)
+{
+    struct tally tally = {0, 0, 0};
+    struct record record;
+    unsigned long number = 0;
+    if (input_lacks_ends(input))
+        complain(input->name, "there is no CR LF in this file, so it is taken as one record");
+    while (input_next(input, &record)) {
+        wq_booked booked = book_record(book, record.bytes, record.length);
+        unsigned long before = tally.refused;
+        print_answer(stdout, input->name, ++number, &record, &booked, book);
+        count_answer(&tally, booked.answer);
+        if (tally.refused > before && booking->all.refused + before < MOST_REPEATED)
+            print_answer(booking->refused, input->name, number, &record, &booked, book);
+    }
+    return tally;
+}
+
+/* Whether the file is left out, since its bytes were booked into this book before. */
+static int is_left_out(struct booking *booking, const struct book_file *file,
+                       const struct saved *saved, const struct input *input)
+{
+    const char *line = history_of_file(&file->history, saved->digest, input->digest);
+    char note[NOTE_ROOM];
+    if (line == NULL || booking->again)
+        return 0;
+    snprintf(note, sizeof note, "left out: these bytes were booked at %.*s; --again books them "
+             "once more", WHEN_WIDTH, line);
+    complain(input->name, note);
+    booking->left_out++;
+    return 1;
+}
+
+/* Books one file. `saved` is the book before it and becomes the book after it. */
+static int book_one(struct booking *booking, struct book_file *file, struct book *book,
+                    struct input *input, struct saved *saved)
+{
+    char from[DIGEST_ROOM];
+    struct tally tally = book_records(booking, book, input);
+    strcpy(from, saved->digest);
+    add_tally(&booking->all, &tally);
+    return book_file_save_bytes(file, book, saved) &&
+           history_add_file(&file->history, from, saved->digest, input->digest, &tally,
+                            input->name);
+}
+
+int booking_run(struct booking *booking, struct book_file *file, struct book *book,
+                struct input *inputs, int count, struct saved *saved)
+{
+    booking->refused = open_memstream(&booking->text, &booking->length);
+    if (booking->refused == NULL) {
+        complain_system("memory", "cannot keep the refused records");
+        return 0;
+    }
+    *saved = file->loaded;
+    for (int i = 0; i < count; i++)
+        if (!is_left_out(booking, file, saved, &inputs[i]) &&
+            !book_one(booking, file, book, &inputs[i], saved))
+            return 0;
+    if (fflush(booking->refused) == 0 && !ferror(booking->refused))
+        return 1;
+    complain("memory", "there is not enough to keep the refused records");
+    return 0;
+}
+
+void booking_print_tally(const struct booking *booking)
+{
+    printf("records: %lu booked, %lu with nothing to book, %lu refused\n", booking->all.booked,
+           booking->all.no_need, booking->all.refused);
+    if (booking->left_out > 0)
+        printf("files booked before, and left out: %lu\n", booking->left_out);
+}
+
+void booking_print_refused(const struct booking *booking)
+{
+    if (booking->all.refused == 0)
+        return;
+    printf("\nRefused records, once more: %lu\n", booking->all.refused);
+    fwrite(booking->text, 1, booking->length, stdout);
+    if (booking->all.refused > MOST_REPEATED)
+        printf("and %lu more, each in its place above\n", booking->all.refused - MOST_REPEATED);
+}
+
+void booking_leave(struct booking *booking)
+{
+    if (booking->refused != NULL)
+        fclose(booking->refused);
+    free(booking->text);
+}

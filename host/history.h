@@ -1,0 +1,54 @@
+/* What is known of a book's past: BOOK.digests and BOOK.log, both plain text.
+ *
+ * BOOK.digests has a line for each book that was about to be saved: its digest, and when.
+ * BOOK.log has a line for each file that was booked:
+ *
+ *   WHEN from BOOK to BOOK: file DIGEST, N booked, N with nothing to book, N refused: NAME
+ *
+ * with the first digits of the digests of the books before and after it. So the lines form a
+ * trail that leads back from the book at hand, and a line that is not on the trail tells of
+ * a book that is not this one: its run broke off before the book was in place, or an older
+ * book was put back. Such a line does not count. A trail begins with `from new` for a new
+ * book; `from any`, for a book taken on purpose, lets every line above it count. */
+#ifndef HISTORY_H
+#define HISTORY_H
+
+#include "digest.h"
+#include "own_files.h"
+
+struct history {
+    struct bytes digests, log;      /* the texts; no bytes where there is no file */
+    size_t log_kept;                /* how much of the log stands in its file already */
+};
+
+/* What became of a file's records. */
+struct tally { unsigned long booked, no_need, refused; };
+
+/* Reads both files; returns 0, and has said why, where one cannot be read or is not ours. */
+int history_read(struct history *history, const struct own_files *files);
+
+/* Whether a book with this digest was saved here. */
+int history_knows_book(const struct history *history, const char *digest);
+
+/* The line of the log that says that a file was booked into the book at hand, or NULL. */
+const char *history_of_file(const struct history *history, const char *book, const char *file);
+
+/* Says on standard error where the log does not tell the whole past of the book at hand. */
+void history_judge(const struct history *history, const struct own_files *files,
+                   const char *book);
+
+/* Adds to the texts in memory; each returns 0, and has said so, where there is not enough. */
+int history_add_digest(struct history *history, const char *digest);
+int history_add_new(struct history *history, const char *to);
+int history_add_accepted(struct history *history, const char *to);
+int history_add_file(struct history *history, const char *from, const char *to,
+                     const char *file, const struct tally *tally, const char *name);
+
+/* Writes the texts as new files that wait to take their names; the log only where something
+   was added. */
+int history_write_digests(const struct history *history, struct own_files *files);
+int history_write_log(struct history *history, struct own_files *files);
+
+void history_leave(struct history *history);
+
+#endif

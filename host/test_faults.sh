@@ -1,0 +1,216 @@
+# Faults and kills at each system call of a run, injected by strace.
+
+if ! command -v strace >/dev/null && [ "$(id -u)" -eq 0 ] && command -v apt-get >/dev/null; then
+    timeout 120 sh -c 'apt-get -q update && apt-get -q -y install strace' >/dev/null 2>&1
+fi
+
+# The calls at which something is injected; a ? lets a machine lack one.
+calls='openat,read,write,close,fsync,fcntl,fchmod,fchown,?rename,renameat,?renameat2,?fstat,?newfstatat,?stat,?lstat,?access,faccessat,?faccessat2,?readlink,readlinkat,?unlink,unlinkat'
+
+# Runs the program on b in a fresh copy of the directory `calm`, with something injected.
+start_afresh() { rm -rf fault && cp -rp calm fault; }
+run_injected() {    # what is injected; then the arguments
+    inject=$1
+    shift
+    { (cd fault && timeout 30 strace -f -y -o ../trace -e "trace=$calls" \
+        ${inject:+-e "inject=$inject"} "$host" "$@" >../out 2>../err); code=$?; } 2>/dev/null
+}
+
+# All that stands beside the book, and the book.
+state_of() { cat "$1/b" "$1/b.old" "$1/b.digests" "$1/b.log"; }
+
+# Writes a line for each call that the program makes of its own: name, which one, and whether
+# an error there must not go unnoticed. The program's first call is fcntl(0, F_GETFD). Calls
+# of the system's own libraries, and looks at files by their names, are left out.
+list_points() {
+    awk -v here="$work/fault" '
+        !main && /fcntl\(0<.*F_GETFD/ { main = $1 }
+        { lines[NR] = $0 }
+        END {
+            for (i = 1; i <= NR; i++) {
+                split(lines[i], part, " ")
+                if (part[1] != main || part[2] !~ /^[a-z]/) continue
+                name = part[2]; sub(/\(.*/, "", name); count[name]++
+                if (started) {
+                    if (lines[i] ~ /"\/(usr|etc)\// || (name ~ /stat/ && index(lines[i], "\"" here "/b"))) continue
+                    own = index(lines[i], here) > 0
+                    fresh = lines[i] ~ /<[^>]*\.wizqamul-new/
+                    must = name ~ /^(write|fsync|fchmod|rename|renameat|renameat2)$/ ||
+                           (name ~ /^(openat|read)$/ && own) || (name == "close" && fresh) ||
+                           (name == "fcntl" && lines[i] ~ /F_SETLK/)
+                    print name, count[name], must ? "must" : "may", fresh ? "fresh" : "other", lines[i] ~ /\.lock/ ? "lock" : "-"
+                }
+                if (lines[i] ~ /fcntl\(0<.*F_GETFD/) started = 1
+            }
+        }' trace
+}
+
+# The book is the old one or the new one, as the exit code says, and its digest is known.
+expect_whole() {    # what it is
+    case $code in
+    0 | 1 | 3) cmp -s fault/b want.book || fail "$1: exit code $code, but not the new book" ;;
+    2) cmp -s fault/b calm/b || fail "$1: exit code 2, but not the old book" ;;
+    137) cmp -s fault/b want.book || cmp -s fault/b calm/b || fail "$1: neither the old book nor the new one" ;;
+    *) fail "$1: exit code $code" ;;
+    esac
+    grep -q "^$(digest fault/b) " fault/b.digests || fail "$1: the digest of the book is not known"
+    [ -z "$(find fault \( -name 'b*' -o -name '.w*' \) -perm /077)" ] || fail "$1: a private file is open to others"
+}
+
+# A next run books what was not booked, and nothing twice.
+expect_next() {     # what it is
+    state_of fault | cmp -s - calm.state && return
+    cp fault/b before.book
+    run fault/b fault/five.bwa
+    cmp -s fault/b want.book || fail "$1: the next run does not give the new book"
+    if cmp -s before.book want.book; then
+        [ $code -eq 1 ] || fail "$1: the file was booked, and the next run does not know it"
+    else
+        [ $code -eq 0 ] || fail "$1: the file was not booked, and the next run does not book it"
+    fi
+    cmp -s fault/b.old calm/b || fail "$1: the book before is not kept"
+}
+
+inject_all() {
+    while read -r name number must fresh lock; do
+        at="$name number $number"
+        start_afresh
+        run_injected "$name:error=EIO:when=$number" b five.bwa
+        expect_whole "error at $at"
+        [ $must = may ] || [ $code -ge 2 ] || fail "error at $at: it goes unnoticed"
+        case $name in unlink*) ;; *) expect_tidy fault "error at $at" ;; esac
+        expect_next "error at $at"
+        pass
+        case $name in openat | write | close | fsync | fchmod | rename* | unlink*)
+            start_afresh
+            run_injected "$name:signal=SIGKILL:when=$number" b five.bwa
+            [ $code -eq 137 ] || fail "killed at $at: exit code $code"
+            expect_whole "killed at $at"
+            expect_next "killed at $at"
+            pass ;;
+        esac
+        case $name,$must,$fresh in read,must,* | write,*,fresh)
+            start_afresh
+            run_injected "$name:error=EINTR:when=$number" b five.bwa
+            [ $code -eq 0 ] || fail "$at interrupted: exit code $code"
+            expect_whole "$at interrupted"
+            pass ;;
+        esac
+        case $name,$fresh in fsync,other)      # a file system that cannot do it for a directory
+            start_afresh
+            run_injected "$name:error=EINVAL:when=$number" b five.bwa
+            expect_code 0 "a directory that cannot be synced"
+            expect_whole "a directory that cannot be synced" ;;
+        esac
+        case $name,$fresh in write,fresh)
+            start_afresh
+            run_injected "$name:retval=0:when=$number" b five.bwa
+            expect_code 2 "$at writes nothing"
+            expect_whole "$at writes nothing" ;;
+        esac
+    done <points
+}
+
+# A new book that is killed at a rename is there whole or not at all, and can be made then.
+inject_new() {
+    rm -rf fault && mkdir fault && cp order.bwa fault
+    run_injected "" --new b order.bwa
+    expect_code 0 "a new book, traced"
+    list_points | grep '^rename' >renames
+    [ "$(wc -l <renames)" -eq 3 ] || fail "a new book takes $(wc -l <renames) names, not 3"
+    cp fault/b want_new.book
+    while read -r name number must fresh lock; do
+        rm -rf fault && mkdir fault && cp order.bwa fault
+        run_injected "$name:signal=SIGKILL:when=$number" --new b order.bwa
+        expect_code 137 "a new book, killed at $name number $number"
+        expect_none fault/b "a new book, killed at $name number $number"
+        run fault/b fault/order.bwa
+        expect_code 2 "a new book that was not made"
+        run --new fault/b fault/order.bwa
+        expect_code 0 "a new book made after all"
+        expect_same fault/b want_new.book "a new book made after all"
+    done <renames
+}
+
+# Answers that do not fit into one write: an error at the first is not forgotten by the last.
+inject_answers() {
+    start_afresh
+    cp many.bwa fault
+    run_injected "" b many.bwa
+    first=$(list_points | awk '$1 == "write" { print $2; exit }')
+    start_afresh
+    cp many.bwa fault
+    run_injected "write:error=ENOSPC:when=$first" b many.bwa
+    expect_code 2 "a part of the answers cannot be printed"
+    expect_err "standard output: " "a part of the answers cannot be printed"
+    expect_same fault/b calm/b "a part of the answers cannot be printed"
+}
+
+# Starts a run that stops at a call, and waits until it has stopped.
+start_stopped() {   # the call and its number; then the arguments
+    inject="$1:signal=SIGSTOP:when=$2"
+    shift 2
+    rm -f stopped
+    (cd fault && exec strace -f -o ../stopped -e "trace=$calls" -e "inject=$inject" "$host" "$@" >../first.out 2>../first.err) &
+    child=$!
+    tries=0
+    until grep -q 'stopped by SIGSTOP' stopped 2>/dev/null; do
+        tries=$((tries + 1))
+        [ $tries -lt 300 ] || fail "a run does not stop at $inject"
+        sleep 0.1
+    done
+    stopped=$(awk '/stopped by SIGSTOP/ { print $1; exit }' stopped)
+}
+go_on() { kill -CONT "$stopped"; wait $child; code=$?; child=; }
+
+two_at_once() {
+    # A run that waits before it has the lock must see what another run has saved meanwhile.
+    start_afresh
+    start_stopped $(awk '$1 == "openat" && $5 == "lock" { print $1, $2; exit }' points) b five.bwa
+    run fault/b fault/six.bwa
+    expect_code 0 "a run while another has no lock yet"
+    go_on
+    expect_code 0 "a run that gets the lock later"
+    run fault/b
+    expect_out "used: 5 of 512 lines, 5 of 1024 slips" "two runs, one after the other"
+    # The lock is held until the book is in place.
+    start_afresh
+    start_stopped $(awk '$1 == "fsync" { last = this; this = $1 " " $2 } END { print last }' points) b five.bwa
+    run fault/b fault/six.bwa
+    expect_code 2 "a run while another saves"
+    expect_err "another run" "a run while another saves"
+    go_on
+    expect_code 0 "the run that saves"
+    expect_same fault/b want.book "the run that saves"
+}
+
+if strace -f -o /dev/null -e trace=getppid -e inject=getppid:error=EIO true 2>/dev/null; then
+    mkdir calm
+    copy_book kept.book calm/b
+    cp five.bwa calm
+    put "$(delivery 0006 0001)" >calm/six.bwa
+    chmod 600 calm/b*
+    state_of calm >calm.state
+    copy_book calm/b want.book
+    run want.book five.bwa
+    start_afresh
+    run_injected "" b five.bwa
+    expect_code 0 "a traced run"
+    expect_whole "a traced run"
+    list_points >points
+    for name in openat read write close fsync fcntl fchmod; do
+        grep -q "^$name .* must" points || fail "no $name among the calls of a run"
+        pass
+    done
+    # Four new files go to the disk; three take their names, and the directory goes to the
+    # disk; then the book takes its name, and the directory goes to the disk again.
+    awk '/^fsync/ { print "sync", $4 } /^rename/ { print "rename" }' points | tr '\n' ' ' >got
+    echo "sync fresh sync fresh sync fresh sync fresh rename rename rename sync other rename sync other " | tr -d '\n' >wanted
+    expect_text got wanted "the order of a save"
+    two_at_once
+    inject_new
+    inject_answers
+    inject_all
+else
+    echo "host: faults at system calls not injected (no strace)"
+fi

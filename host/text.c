@@ -1,0 +1,116 @@
+/* Bytes, names and complaints as text. */
+#include "text.h"
+
+#include <errno.h>
+#include <string.h>
+
+enum {
+    FIRST_ASCII = ' ', LAST_ASCII = '~',
+    FIRST_WINDOWS = 128, FIRST_LATIN = 160,     /* from here on a byte is its own letter */
+    FIRST_LEADING = 0xC2, LAST_LEADING = 0xF4,  /* bytes that UTF-8 letters begin with */
+    FOLLOWING = 0x80, FOLLOWING_MASK = 0xC0, FOLLOWING_BITS = 6,
+    LONGEST_LETTER = 4,
+    FIRST_SURROGATE = 0xD800, LAST_SURROGATE = 0xDFFF, LAST_LETTER = 0x10FFFF
+};
+
+/* Windows-1252 from 128 to 159; NULL where it has no sign. */
+static const char *const windows[FIRST_LATIN - FIRST_WINDOWS] = {
+    "€", NULL, "‚", "ƒ", "„", "…", "†", "‡", "ˆ", "‰", "Š", "‹", "Œ", NULL, "Ž", NULL,
+    NULL, "‘", "’", "“", "”", "•", "–", "—", "˜", "™", "š", "›", "œ", NULL, "ž", "Ÿ"
+};
+
+static int is_plain(unsigned byte)
+{
+    return byte >= FIRST_ASCII && byte <= LAST_ASCII && byte != '\\';
+}
+
+/* One byte of a field as text; gives the number of bytes written. */
+static int byte_as_text(unsigned byte, char *text)
+{
+    if (is_plain(byte))
+        return sprintf(text, "%c", (int)byte);
+    if (byte >= FIRST_LATIN)
+        return sprintf(text, "%c%c", (int)(0xC0 | byte >> FOLLOWING_BITS),
+                       (int)(FOLLOWING | (byte & ~(unsigned)FOLLOWING_MASK)));
+    if (byte >= FIRST_WINDOWS && windows[byte - FIRST_WINDOWS] != NULL)
+        return sprintf(text, "%s", windows[byte - FIRST_WINDOWS]);
+    return sprintf(text, "\\x%02X", byte);
+}
+
+void text_of(const uint8_t *field, size_t width, char text[TEXT_ROOM])
+{
+    while (width > 0 && field[width - 1] == ' ')
+        width--;
+    text[0] = '\0';
+    for (size_t i = 0; i < width; i++)
+        text += byte_as_text(field[i], text);
+}
+
+void print_padded(const char *text, size_t letters)
+{
+    size_t shown = 0;
+    for (const char *at = text; *at != '\0'; at++)
+        shown += ((unsigned char)*at & FOLLOWING_MASK) != FOLLOWING;
+    printf("%s%*s", text, (int)(shown < letters ? letters - shown : 0), "");
+}
+
+/* How many bytes the UTF-8 letter at the start of a text has; 0 where none stands there. The
+   control signs 128 to 159 are no letters. */
+static size_t letter_length(const char *text)
+{
+    static const unsigned long least[LONGEST_LETTER + 1] = {0, 0, FIRST_LATIN, 0x800, 0x10000};
+    unsigned first = (unsigned char)text[0];
+    size_t length = first >= 0xF0 ? 4 : first >= 0xE0 ? 3 : 2;
+    unsigned long letter = first & (0x7Fu >> length);
+    if (first < FIRST_LEADING || first > LAST_LEADING)
+        return 0;
+    for (size_t i = 1; i < length; i++) {
+        unsigned next = (unsigned char)text[i];
+        if ((next & FOLLOWING_MASK) != FOLLOWING)
+            return 0;
+        letter = letter << FOLLOWING_BITS | (next & ~(unsigned)FOLLOWING_MASK);
+    }
+    if (letter < least[length] || letter > LAST_LETTER ||
+        (letter >= FIRST_SURROGATE && letter <= LAST_SURROGATE))
+        return 0;
+    return length;
+}
+
+void print_name(FILE *to, const char *name)
+{
+    while (*name != '\0') {
+        size_t length = is_plain((unsigned char)*name) ? 1 : letter_length(name);
+        if (length > 0) {
+            fprintf(to, "%.*s", (int)length, name);
+            name += length;
+        } else {
+            fprintf(to, "\\x%02X", (unsigned)(unsigned char)*name++);
+        }
+    }
+}
+
+static FILE *complaints;
+
+void complain_on(FILE *stream)
+{
+    complaints = stream;
+}
+
+/* One line: the reason is left out where there is none. */
+static void say(const char *subject, const char *trouble, const char *reason)
+{
+    FILE *to = complaints == NULL ? stderr : complaints;
+    fputs(PROGRAM ": ", to);
+    print_name(to, subject);
+    fprintf(to, ": %s%s%s\n", trouble, reason == NULL ? "" : ": ", reason == NULL ? "" : reason);
+}
+
+void complain(const char *subject, const char *trouble)
+{
+    say(subject, trouble, NULL);
+}
+
+void complain_system(const char *subject, const char *trouble)
+{
+    say(subject, trouble, strerror(errno));
+}
