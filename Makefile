@@ -3,7 +3,7 @@
 #   make test                         the whole gate; its last line is `N passed, 0 failed`
 # Besides: make lib, make host, make compare, make bench, make fuzz, make mutants, make clean.
 
-.PHONY: book test lib host compare desk-compare sanitized header bench fuzz mutants reference-mutants host-mutants tools clean
+.PHONY: book test lib host compare desk-compare desk-fault sanitized header bench fuzz mutants reference-mutants host-mutants tools clean
 
 # The library is x86-64 code. On another machine its C programs are built by Debian's cross compiler and run under its emulator.
 ifeq ($(shell uname -m),x86_64)
@@ -28,9 +28,6 @@ DRIVER = $(wildcard tests/compare*.c tests/input*.c) tests/classes.c tests/lendi
 HEADERS = $(wildcard include/*.h tests/*.h host/*.h)
 RATTLE = crates.txt $(wildcard crates/*/src/*.rt)
 
-# Runs a command of the kit and shows what it said only where it fails.
-quietly = log=$$(mktemp); $(1) > $$log 2>&1 || { cat $$log; rm -f $$log; exit 1; }; rm -f $$log
-
 # Books the records of a file into an empty book and prints one line each.
 book: target/bin/desk tools
 	@test -n "$(FILE)" || { echo "usage: make book FILE=examples/day.bwa" >&2; exit 2; }
@@ -39,10 +36,10 @@ book: target/bin/desk tools
 # The layout of every file; every proof, every must-fail edit and every program; then the C library against an independent implementation, and the host program. The verdict of the proofs stands last.
 test: tools
 	@rt fmt --check
-	@log=$$(mktemp); trap 'rm -f $$log $$log.status' EXIT; \
-	{ rt ci 2>&1; echo $$? > $$log.status; } | tee $$log; verdict=$$(tail -n 1 $$log); \
-	case "$$(cat $$log.status),$$verdict" in 0,*" passed, 0 failed") ;; *) exit 1 ;; esac; \
-	$(MAKE) --no-print-directory header compare desk-compare sanitized host-test && echo "$$verdict"
+	@log=$$(mktemp); trap 'rm -f $$log' EXIT; \
+	LOG=$$log tests/proving.sh all rt ci || exit 1; verdict=$$(tail -n 1 $$log); \
+	case "$$verdict" in *" passed, 0 failed") ;; *) exit 1 ;; esac; \
+	$(MAKE) --no-print-directory header compare desk-compare desk-fault sanitized host-test && echo "$$verdict"
 
 lib: $(LIBRARY)
 
@@ -58,6 +55,12 @@ desk-compare: target/c/desk target/bin/desk
 	@$(RUN) target/c/desk < crates/desk/stdin > target/c/stored.out && cmp target/c/stored.out crates/desk/stdout
 	@$(RUN) target/bin/desk < examples/day.bwa > target/c/day.out && $(RUN) target/c/desk < examples/day.bwa > target/c/day.expected && cmp target/c/day.out target/c/day.expected
 	@echo "desk: 2 days compared, 0 differences"
+
+# An input that fails after its bytes: the record before the fault is booked, the one that it cut off is not, and that is said.
+desk-fault: target/c/fault target/bin/desk
+	@head -n 1 examples/day.bwa > target/c/first.bwa && $(RUN) target/bin/desk < target/c/first.bwa > target/c/first.out
+	@$(RUN) target/c/fault "$$(sed -n '1p;2s/\r$$//p' examples/day.bwa)" $(RUN) target/bin/desk > target/c/fault.out 2> target/c/fault.err
+	@cmp target/c/first.out target/c/fault.out && grep -q 'not be read to its end' target/c/fault.err && echo "desk: of a failed input nothing is booked that the fault cut off"
 
 # The comparison for longer, with fresh seeds, until it is stopped.
 SEED ?= 1
@@ -99,16 +102,19 @@ host-test: target/c/wizqamul-host
 	@RUN="$(RUN)" host/test.sh target/c/wizqamul-host
 
 target/bin/desk: $(RATTLE)
-	@$(call quietly,rt check desk)
+	@tests/proving.sh desk rt check desk >&2
 
 $(LIBRARY): $(RATTLE)
-	@$(call quietly,rt staticlib wizqamul)
+	@tests/proving.sh wizqamul rt staticlib wizqamul >&2
 
 target/c/compare: $(DRIVER) $(REFERENCE) $(HEADERS) $(LIBRARY) | tools target/c
 	@$(COMPILER) $(WARNINGS) -O2 -o $@ $(DRIVER) $(REFERENCE) $(LIBRARY)
 
 target/c/desk: tests/desk.c $(REFERENCE) $(HEADERS) | tools target/c
 	@$(COMPILER) $(WARNINGS) -O2 -o $@ tests/desk.c $(REFERENCE)
+
+target/c/fault: tests/fault.c | tools target/c
+	@$(COMPILER) $(WARNINGS) -O2 -o $@ tests/fault.c
 
 target/c/bench: tests/bench.c $(REFERENCE) $(HEADERS) $(LIBRARY) | tools target/c
 	@$(COMPILER) $(WARNINGS) -O2 -o $@ tests/bench.c $(REFERENCE) $(LIBRARY)

@@ -4,14 +4,17 @@
 # line where it does not; the exit status is the command's own.
 #
 # Usage: proving.sh CRATE|all COMMAND [WORD..]
-# CRATE is what the command proves, with what it stands on. Run it where crates.txt is.
+# CRATE is what the command proves, with what it stands on. Run it where crates.txt is. Where LOG
+# names a file, all that the command said is kept there.
 
 [ $# -ge 2 ] && [ -f crates.txt ] || { echo "usage: proving.sh CRATE|all COMMAND [WORD..]" >&2; exit 2; }
 wanted=$1
 shift
-log=$(mktemp) || exit 2
+made=
+log=${LOG:-}
+[ -n "$log" ] || { log=$(mktemp) && made=$log; } || exit 2
 child=
-trap '[ -z "$child" ] || kill "$child" 2>/dev/null; rm -f "$log"' EXIT
+trap '[ -z "$child" ] || kill "$child" 2>/dev/null; [ -z "$made" ] || rm -f "$made"' EXIT
 trap 'exit 130' INT TERM HUP
 
 # How many crates of ours the command proves: those that the wanted one names, and itself.
