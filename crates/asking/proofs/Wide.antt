@@ -1,16 +1,12 @@
 -- The fields of a key, each of its length.
-use mathlib.Core.Path.{_≡_, refl, sym, _∙_}
-use mathlib.Core.Bool.{true, _&&_}
-use mathlib.Core.List.{List, [], _∷_, _++_}
-use Prim.Native.Nat.{ℕ, _+_}
-use native.Mathlib.Omega.{arith}
+use mathlib.Core.Path.{_≡_}
+use mathlib.Core.Bool.{true}
+use mathlib.Core.List.{List, [], _∷_}
+use Prim.Native.Nat.{ℕ}
 use lib.Dec.{eqb}
 use borrow.Author.Tests.{eqb-true}
-use lib.ListN.{length, replicate, length-append, length-replicate}
-use lib.Seq.{sets}
-use Rattle.cells.specs.Bytes.{joined}
+use lib.ListN.{length}
 use Rattle.cells.proofs.Bools.{and-left, and-right}
-use Rattle.cells.proofs.Stores.{sets-append, sets-whole}
 use Rattle.book.specs.Asked.{keyWidths, areWide}
 
 -- the first of fields of their lengths has its length, and so have the others

@@ -1,5 +1,5 @@
 -- What is known of every accepted record: it is read, of a kind that is booked, with copies and a reference; so its key fields have their lengths, and it is booked as its bytes say.
-use mathlib.Core.Path.{_≡_, _∙_, sym, refl}
+use mathlib.Core.Path.{_≡_, refl}
 use mathlib.Core.Bool.{Bool, true, false, _&&_}
 use mathlib.Core.List.{List, [], _∷_}
 use Prim.Native.Nat.{ℕ, _≤_}
@@ -13,16 +13,16 @@ use Rattle.record.specs.declared.answer.Verdict.the-variants.{Fits as ReadFits}
 use Rattle.record.specs.declared.layout.Kind.{Kind}
 use Rattle.record.specs.declared.layout.Kind.the-variants.{Order, Goods, Closing, Report}
 use Rattle.record.specs.declared.layout.Kinded.the-variants.{Known}
-use Rattle.reader.proofs.Fitting.{Fitting, fitting}
+use Rattle.reader.proofs.Fitting.{fitting}
 use Rattle.ledger.specs.Book.{schoolOf, ofSchool as schoolIs}
 use Rattle.ledger.specs.History.{keyOf as keyIn, isOrder as isOrdering, onOrder, onSlip, hasSlip}
 use Rattle.book.specs.Lent.{Lent}
-use Rattle.book.specs.Booking.{keyFields, slipFields, lineKey, slipKey, copiesIn, nothingToBook, noCopies, noReference, fitJudged, fieldsIn}
+use Rattle.book.specs.Booking.{keyFields, slipFields, lineKey, slipKey, nothingToBook, noCopies, noReference, fieldsIn}
 use Rattle.book.specs.Asked.{keyWidths, areWide}
 use Rattle.balance.specs.Told.{fitAs, fitKind, fitOf}
-use Rattle.balance.specs.Demand3.{isOrder, isDelivery, isReport, copiesOn, keyFieldsIn, slipFieldsIn, sameFields, ofSchool}
+use Rattle.balance.specs.Demand3.{isOrder, isDelivery, copiesOn, keyFieldsIn, slipFieldsIn, sameFields, ofSchool}
 use Rattle.balance.proofs.Accepted.{Accepts}
-use Rattle.balance.proofs.Followed.{passed}
+use Rattle.balance.proofs.Followed.{fit-passed}
 use Rattle.balance.proofs.Keys.{same-fields, front-two, fields-wide}
 
 pub record Bookable (s : List ℕ) : Type 0 where
@@ -36,13 +36,17 @@ pub record Bookable (s : List ℕ) : Type 0 where
 
 -- an accepted record is
 pub bookable : (s : List ℕ) (b : Lent) → Accepts s b → Bookable s
-unfolding fitJudged
 bookable s b a =
-    let k : Kind = a .kind in
-    let one = passed (nothingToBook k s) _ _ (a .place) (a .fits) in
-    let two = passed (noCopies k s) _ _ (a .place) (one .1) in
-    let three = passed (noReference k s) _ _ (a .place) (two .1) in
-    record { fields = a .fields; read = a .read; kind = k; known = a .known; something = one .0; copies = two .0; referenced = three .0 }
+    let fit = fit-passed (a .kind) s b (a .place) (a .fits) in
+    record {
+      fields = a .fields;
+      read = a .read;
+      kind = a .kind;
+      known = a .known;
+      something = fit .something;
+      copies = fit .copies;
+      referenced = fit .referenced;
+    }
 
 -- the seven fields of a record's key have their lengths, and make the key of its line
 pub record Keyed (s : List ℕ) : Type 0 where

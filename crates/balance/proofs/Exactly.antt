@@ -3,9 +3,8 @@ use mathlib.Core.Path.{_≡_, _∙_, sym, refl}
 use mathlib.Core.Bool.{true, false, false≢true}
 use mathlib.Core.Logic.{_≢_, _⊎_, inl, inr}
 use mathlib.Core.List.{List}
-use Prim.Native.Nat.{ℕ, _+_, _≤_, _<_}
+use Prim.Native.Nat.{ℕ, _+_}
 use native.Mathlib.Omega.{arith}
-use lib.Dec.{leb, ltb}
 use borrow.Author.Tests.{lt-ltb, le-leb}
 use Rattle.cells.specs.Bytes.{same}
 use Rattle.cells.proofs.Bools.{split}
@@ -17,13 +16,12 @@ use Rattle.roundtrip.proofs.ReadExactly.{fits-record, record-fits}
 use Rattle.book.specs.Lent.{Lent, usedLines, usedSlips, lineRoom, slipRoom, findLine, findSlip}
 use Rattle.book.specs.Booking.{lineKey, slipKey, copiesIn, orderJudged, arrivalJudged, goodsJudged, deliveryJudged, reportJudged, bookJudged, book}
 use Rattle.book.specs.declared.seek.Found.the-variants.{At, Nothing}
-use Rattle.book.specs.declared.answer.Verdict.the-variants.{Refuse, Fits}
+use Rattle.book.specs.declared.answer.Verdict.the-variants.{Fits}
 use Rattle.book.proofs.Searches.{found-at, none-at}
-use Rattle.balance.specs.Accepted.{NoLineWith, NoSlipWith, LineWith, OrderPasses, DeliveryPasses, ReportPasses, Passes, Acceptable, Accepted, AcceptedExactly}
+use Rattle.balance.specs.Accepted.{NoLineWith, NoSlipWith, LineWith, Passes, Acceptable, AcceptedExactly}
 use Rattle.balance.proofs.Listings.{first-is, none-is, first-so}
 use Rattle.balance.proofs.Accepted.{Refuses, Accepts, refused-or-accepted}
 use Rattle.balance.proofs.Followed.{fit-passed, order-fits, delivery-fits, report-fits}
-use Rattle.balance.proofs.Bookable.{bookable}
 use Rattle.balance.proofs.Numbers.{verdictNumber, fit-answer}
 
 -- two lists that are not equal are not the same, and the other way round
@@ -100,7 +98,7 @@ module _ (s : List ℕ) (b : Lent) where
 acceptable : (s : List ℕ) (b : Lent) → Accepts s b → Acceptable s b
 acceptable s b a =
     let k : Kind = a .kind in
-    let fit = bookable s b a in
+    let fit = fit-passed k s b (a .place) (a .fits) in
     record {
       is-sound = a .is-sound;
       is-record = fits-record s (a .fields) (a .read);
@@ -109,7 +107,7 @@ acceptable s b a =
       something = fit .something;
       copies = fit .copies;
       referenced = fit .referenced;
-      passes = passes-so s b k (a .place) (fit-passed k s b (a .place) (a .fits) .1);
+      passes = passes-so s b k (a .place) (fit .judged-fit);
     }
 
 -- accepted exactly

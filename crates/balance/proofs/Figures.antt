@@ -1,20 +1,16 @@
 -- The figures that the calls answer are those of the book that the bytes tell.
 use mathlib.Core.Path.{_≡_, _∙_, ap, sym, refl}
-use mathlib.Core.Bool.{Bool, true, false}
+use mathlib.Core.Bool.{Bool, true}
 use mathlib.Core.Logic.{_⊎_, inl, inr}
-use mathlib.Core.Option.{Option, none, some}
+use mathlib.Core.Option.{none, some}
 use mathlib.Core.List.{List, [], _∷_, _++_}
-use Prim.Native.Nat.{ℕ, _+_, _≤_}
+use Prim.Native.Nat.{ℕ, _+_}
 use native.Mathlib.Omega.{arith}
-use lib.ListN.{length}
-use Rattle.cells.specs.Bytes.{same, all, joined}
+use Rattle.cells.specs.Bytes.{same, joined}
 use Rattle.cells.proofs.Bools.{split}
 use Rattle.cells.proofs.Lists.{same-refl}
-use Rattle.record.specs.Layout.{layout, fixedWidth, kindOf}
 use Rattle.record.specs.declared.layout.Kind.{Kind}
 use Rattle.record.specs.declared.layout.Kind.the-variants.{Order, Goods, Closing, Report}
-use Rattle.record.specs.declared.layout.Kinded.the-variants.{Known}
-use Rattle.reader.proofs.Fitting.{Fitting, fitting}
 use Rattle.entry.specs.Line.{withMark, withArrivals, openOf, letGoOf, filledOf, figuresOf}
 use Rattle.entry.specs.Stored.{lineAt, keyAt}
 use Rattle.entry.specs.declared.line.Mark.{Mark}
@@ -22,24 +18,23 @@ use Rattle.entry.specs.declared.line.Mark.the-variants.{Unmarked, Held, Dropped
 use Rattle.entry.specs.declared.line.Line.{Line as Stored}
 use Rattle.ledger.specs.Lists.{first, change}
 use Rattle.ledger.specs.Book.{Key, Line, ordered, filled, letGo, stillOpen, extra, isN}
-use Rattle.ledger.specs.Booking.{Fit, order as ordering, goods as arriving, report as telling, newLine as newTold, arrive, tell, changeLine, enter, lineAt as lineWith}
+use Rattle.ledger.specs.Booking.{newLine as newTold, arrive, tell, changeLine, enter, lineAt as lineWith}
 use Rattle.ledger.specs.History.{keyOf as keyIn}
 use Rattle.ledger.proofs.Parts.{arrive-key, tell-key}
-use Rattle.book.specs.Lent.{Lent, sound, findLine, findSlip}
-use Rattle.book.specs.Booking.{keyFields, lineKey, slipKey, copiesIn, markIn, bookJudged, newLine, lineAfter, refusedAs, doneAs, book, fieldsIn}
-use Rattle.book.specs.Asked.{keyWidths, areWide, figuresAt, figuresOfKey, lineAsked}
+use Rattle.book.specs.Lent.{Lent, findLine, findSlip}
+use Rattle.book.specs.Booking.{lineKey, slipKey, copiesIn, markIn, bookJudged, newLine, lineAfter, doneAs, book}
+use Rattle.book.specs.Asked.{figuresAt, figuresOfKey, lineAsked}
 use Rattle.book.specs.declared.answer.Verdict.the-variants.{Fits}
 use Rattle.book.specs.declared.seek.Found.{Found}
 use Rattle.book.specs.declared.seek.Found.the-variants.{At, Nothing}
 use Rattle.balance.specs.Told.{reportOf, lineTold, told, holdOf, fitAs, fitKind, fitOf}
 use Rattle.balance.specs.Demand3.{keyFieldsIn}
 use Rattle.balance.specs.Joined.{figuresTold, saysOf, AskedTells, BookedTells}
-use Rattle.balance.proofs.Soundness.{Kept}
 use Rattle.balance.proofs.Accepted.{Refuses, Accepts, refused-or-accepted}
 use Rattle.balance.proofs.Entered.{lineOf}
 use Rattle.balance.proofs.Found.{no-line, line-found}
-use Rattle.balance.proofs.Followed.{fit-passed, order-fits, delivery-fits, report-fits, line-arrives, line-reported, report-mark, Follows, follows}
-use Rattle.balance.proofs.Bookable.{Keyed, bookable, keyed}
+use Rattle.balance.proofs.Followed.{fit-passed, order-fits, delivery-fits, report-fits, line-arrives, line-reported, report-mark, follows}
+use Rattle.balance.proofs.Bookable.{bookable, keyed}
 
 -- one rule for figures: those of a stored line are those of the line that it is told as
 figures-told : (key : Key) (l : Stored) → figuresOf l ≡ figuresTold (lineOf key l)
@@ -138,7 +133,7 @@ booked-tells s b two e = go (refused-or-accepted s b)
         let f = follows s b (record { is-sound = a .is-sound; counts = two }) a in
         let k : Kind = a .kind in
         let t = keyed s (bookable s b a) in
-        let j = fit-passed k s b (a .place) (a .fits) .1 in
+        let j = fit-passed k s b (a .place) (a .fits) .judged-fit in
         asked-tells (keyFieldsIn s) (book s b .lent)
         ∙ rw (f .kept .is-sound, t .wide, t .key-is, f .tells)
         (sym (a .said ∙ said-kind s b (a .place) k j ∙ unfold fitOf in unfold fitKind in rw (a .known) refl))

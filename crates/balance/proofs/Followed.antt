@@ -50,13 +50,20 @@ let-pass : (t : Bool) (v : Verdict) (r : Refused) (i : ℕ) → pick t v (Refuse
 let-pass true v r i e = (refl, e)
 let-pass false v r i e = let z : _≡_ {A = ℕ} 0 1 = cc in absurd (omega arith)
 
--- a record fit to book has copies, and fits the book
-pub fit-passed : (k : Kind) (s : List ℕ) (b : Lent) (i : ℕ) → fitJudged k s b ≡ Fits i → (noCopies k s ≡ false) × (bookJudged k s b ≡ Fits i)
+-- a record that fits has something to book, copies and a reference, and fits the book
+pub record FitPassed (k : Kind) (s : List ℕ) (b : Lent) (i : ℕ) : Type 0 where
+  pub something : nothingToBook k s ≡ false
+  pub copies : noCopies k s ≡ false
+  pub referenced : noReference k s ≡ false
+  pub judged-fit : bookJudged k s b ≡ Fits i
+
+pub fit-passed : (k : Kind) (s : List ℕ) (b : Lent) (i : ℕ) → fitJudged k s b ≡ Fits i → FitPassed k s b i
 unfolding fitJudged
 fit-passed k s b i e =
     let one = passed (nothingToBook k s) _ _ i e in
     let two = passed (noCopies k s) _ _ i (one .1) in
-    (two .0, passed (noReference k s) _ _ i (two .1) .1)
+    let three = passed (noReference k s) _ _ i (two .1) in
+    record { something = one .0; copies = two .0; referenced = three .0; judged-fit = three .1 }
 
 module _ (b : Lent) (i : ℕ) where
   -- an order that fits: no line has its key, and there is room for the next
@@ -214,8 +221,8 @@ module _ (s : List ℕ) (b : Lent) (i n : ℕ) (k : Kept b) where
   unfolding fitAs lentAfter lineAfter noCopies bookJudged
   order-follows fit e =
       let p = fit-passed Order s b i e in
-      let q = order-fits b i (findLine b (lineKey Order s)) (p .1) in
-      let ne = eqb-false (copiesIn Order s .0) 0 (p .0) in
+      let q = order-fits b i (findLine b (lineKey Order s)) (p .judged-fit) in
+      let ne = eqb-false (copiesIn Order s .0) 0 (p .copies) in
       let d = q .1 .1 in
       rw d (order-entered b (lineKey Order s) (copiesIn Order s) k (order-key s n fit) (omega arith) (order-copies s n fit) (q .0) (q .1 .0))
 
@@ -223,20 +230,20 @@ module _ (s : List ℕ) (b : Lent) (i n : ℕ) (k : Kept b) where
   unfolding fitAs lentAfter lineAfter bookJudged usedSlips
   goods-follows fit e =
       let p = fit-passed Goods s b i e in
-      let q = delivery-fits b i (lineKey Goods s) (copiesIn Goods s) (findSlip b (slipKey s)) (p .1) in
+      let q = delivery-fits b i (lineKey Goods s) (copiesIn Goods s) (findSlip b (slipKey s)) (p .judged-fit) in
       goods-entered b (lineKey Goods s) (slipKey s) (copiesIn Goods s) i k (slip-key-width s n fit) (goods-copies s n fit) (q .0) (q .1 .0) (q .1 .1 .0) (q .1 .1 .1)
 
   report-follows : fitJudged Report s b ≡ Fits i → Follows b (fitAs Report s) (lentAfter Report s b i)
   unfolding fitAs lentAfter lineAfter bookJudged
   report-follows e =
       let p = fit-passed Report s b i e in
-      report-entered b (lineKey Report s) (markIn s) (holdOf (markIn s)) i k (report-mark s) (report-fits b i (findLine b (lineKey Report s)) (p .1))
+      report-entered b (lineKey Report s) (markIn s) (holdOf (markIn s)) i k (report-mark s) (report-fits b i (findLine b (lineKey Report s)) (p .judged-fit))
 
   -- a record of any kind; a closing record never fits
   kind-follows : (j : Kind) → Fitting j s n → fitJudged j s b ≡ Fits i → Follows b (fitAs j s) (lentAfter j s b i)
   kind-follows Order fit e = order-follows fit e
   kind-follows Goods fit e = goods-follows fit e
-  kind-follows Closing fit e = closing-never (fit-passed Closing s b i e .1)
+  kind-follows Closing fit e = closing-never (fit-passed Closing s b i e .judged-fit)
     where
       closing-never : bookJudged Closing s b ≡ Fits i → Follows b (fitAs Closing s) (lentAfter Closing s b i)
       closing-never e = unfold bookJudged in let z : _≡_ {A = ℕ} 0 1 = cc in absurd (omega arith)

@@ -1,8 +1,8 @@
 -- What the call by key answers follows from the key's own accepted records.
-use mathlib.Core.Path.{_≡_, _∙_, ap, ap₂, sym, refl}
-use mathlib.Core.Bool.{Bool, true, false, _&&_}
+use mathlib.Core.Path.{_≡_, _∙_, ap, sym, refl}
+use mathlib.Core.Bool.{Bool, false}
 use mathlib.Core.Option.{Option, none, some}
-use mathlib.Core.List.{List, [], _∷_, _++_, map}
+use mathlib.Core.List.{List, [], _∷_, map}
 use Prim.Native.Nat.{ℕ}
 use native.Mathlib.Omega.{arith}
 use Rattle.cells.specs.Bytes.{pick, same, joined}
@@ -14,26 +14,23 @@ use Rattle.record.specs.declared.layout.Kind.the-variants.{Order, Goods, Closin
 use Rattle.record.specs.declared.layout.Kinded.the-variants.{Known}
 use Rattle.entry.specs.declared.line.Mark.{Mark}
 use Rattle.entry.specs.declared.line.Mark.the-variants.{Unmarked}
-use Rattle.entry.specs.declared.line.Line.{Line as Stored}
 use Rattle.ledger.specs.Lists.{keep, total}
 use Rattle.ledger.specs.Book.{Key, Report as Telling, Line, Rooms}
 use Rattle.ledger.specs.Booking.{Fit, lineAt as lineWith}
-use Rattle.ledger.specs.History.{empty, bookings, keyOf as keyIn, linesOf, recordsOf as fitsOf, onSlip, lastReport, lineFrom as lineGiven}
+use Rattle.ledger.specs.History.{keyOf as keyIn, linesOf, recordsOf as fitsOf, onSlip, lastReport, lineFrom as lineGiven}
 use Rattle.ledger.proofs.Lists.{Each, total-map}
 use Rattle.ledger.proofs.Members.{total-keep, foremost, first-foremost, each-kept, keep-each, total-each, keep-mapped, keep-nothing}
 use Rattle.ledger.proofs.Gives.{Gives}
 use Rattle.ledger.proofs.Lines.{every-line}
-use Rattle.book.specs.Lent.{Lent}
-use Rattle.book.specs.Booking.{copiesIn, markIn, nothingToBook, refusedAs, doneAs}
+use Rattle.book.specs.Booking.{copiesIn, markIn, nothingToBook}
 use Rattle.book.specs.Asked.{keyWidths, areWide, lineAsked}
-use Rattle.book.specs.declared.answer.Refused.the-variants.{NoLine}
-use Rattle.balance.specs.Told.{reportOf, told, holdOf, fitAs, fitKind, fitOf}
+use Rattle.balance.specs.Told.{reportOf, told, fitAs, fitKind, fitOf}
 use Rattle.balance.specs.Demand3.{isOrder, isDelivery, isReport, copiesOn, keyFieldsIn, sameFields, recordsWith, lastMark, lineFrom, Given}
 use Rattle.balance.specs.Joined.{saysOf}
 use Rattle.balance.proofs.Soundness.{Kept}
 use Rattle.balance.proofs.Entered.{lineOf}
 use Rattle.balance.proofs.Followed.{report-mark}
-use Rattle.balance.proofs.Bookable.{Bookable, BookedAs, booked-as, key-in}
+use Rattle.balance.proofs.Bookable.{Bookable, booked-as, key-in}
 use Rattle.balance.proofs.Figures.{done-told, asked-tells}
 
 -- the copies on some records that are booked as deliveries

@@ -1,14 +1,12 @@
 -- Of a record that has something to book, the bytes and the rule on lists give one answer number.
 use mathlib.Core.Path.{_≡_, _∙_, ap, sym, refl}
-use mathlib.Core.Bool.{Bool, true, false, not, _&&_}
-use mathlib.Core.Option.{none, some}
+use mathlib.Core.Bool.{true, false, not, _&&_}
 use mathlib.Core.List.{List}
 use Prim.Native.Nat.{ℕ, _+_}
 use native.Mathlib.Omega.{arith}
 use lib.Dec.{leb, ltb, eqb}
-use lib.ListN.{length}
 use borrow.Author.Tests.{ltb-true, ltb-false, leb-true, leb-false, lt-leb, le-leb, lt-ltb, le-ltb, eqb-true, eqb-false, eq-eqb, ne-eqb}
-use Rattle.cells.specs.Bytes.{pick, same}
+use Rattle.cells.specs.Bytes.{same}
 use Rattle.cells.proofs.Bools.{split}
 use Rattle.rules.specs.Values.{copies}
 use Rattle.record.specs.Layout.{kindOf}
@@ -20,7 +18,7 @@ use Rattle.record.specs.declared.layout.Kinded.the-variants.{Known}
 use Rattle.entry.specs.Stored.{mostArrived, lineAt, keyAt, keyIs, slipLineAt, slipCopiesAt}
 use Rattle.ledger.specs.Lists.{given, found}
 use Rattle.ledger.specs.Book.{Key, Order as Ordering, Goods as Arrival, Report as Telling}
-use Rattle.ledger.specs.Booking.{order, goods, report, done, refused, isSame, firstOf, tests, judge, mostArrived as limit, lineAt as lineWith, slipAt as slipWith}
+use Rattle.ledger.specs.Booking.{order, goods, report, isSame, firstOf, tests, judge, mostArrived as limit}
 use Rattle.book.specs.Lent.{Lent, usedLines, usedSlips, lineRoom, slipRoom, sound, findLine, findSlip}
 use Rattle.book.specs.Booking.{refusedNumber, lineKey, slipKey, copiesIn, markIn, nothingToBook, noCopies, noReference, orderJudged, slipJudged, arrivalJudged, goodsJudged, deliveryJudged, reportJudged, bookJudged, fitJudged, refusedAs, doneAs, enteredAs, settled, bookAs, bookKind, bookRead, book}
 use Rattle.book.specs.declared.seek.Found.{Found}

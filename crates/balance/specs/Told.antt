@@ -1,9 +1,7 @@
 -- The book that lent bytes tell, as a list of lines and a list of slips (`ledger`), and the record that bytes are fit to book as.
 use Prim.Native.Nat.{ℕ, zero, suc}
 use mathlib.Core.Option.{Option, none, some}
-use mathlib.Core.List.{List, [], _∷_, _++_}
-use lib.Dec.{eqb}
-use Rattle.cells.specs.Bytes.{pick}
+use mathlib.Core.List.{List, [], _∷_}
 use Rattle.record.specs.Layout.{kindOf}
 use Rattle.record.specs.declared.layout.Kind.{Kind}
 use Rattle.record.specs.declared.layout.Kind.the-variants.{Order as order, Goods as goods, Closing as closing, Report as report}

@@ -1,9 +1,9 @@
 -- Booking a record into a lent book: its refusals in their order, and what an accepted record changes (RULES 7).
 use Prim.Native.Nat.{ℕ, _+_}
-use mathlib.Core.Bool.{Bool, true, false, _&&_, _||_}
+use mathlib.Core.Bool.{Bool, true, false, _&&_}
 use mathlib.Core.List.{List, [], _∷_, map}
 use lib.Dec.{eqb, leb, ltb}
-use lib.ListN.{length, getD, set}
+use lib.ListN.{set}
 use Rattle.cells.specs.Bytes.{pick, bytes, same, joined}
 use Rattle.rules.specs.Class.{allOf}
 use Rattle.rules.specs.Values.{copies, copiesOf}

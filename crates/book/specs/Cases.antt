@@ -1,8 +1,7 @@
 -- Cases of booking on bytes: the desk's eight records, the whole table of cases marked P, unsound books, and calls by key.
-use Prim.Native.Nat.{ℕ, suc, _*_}
-use Prim.Native.String.{String}
+use Prim.Native.Nat.{ℕ, _*_}
 use mathlib.Core.List.{List, [], _∷_, _++_}
-use lib.ListN.{replicate, take, drop, set}
+use lib.ListN.{replicate, take, set}
 use lib.Seq.{slice, sets}
 use Rattle.cells.specs.Bytes.{bytes}
 use Rattle.record.specs.Read.{check}
@@ -10,9 +9,8 @@ use Rattle.record.specs.Samples.{X, Y, Z, put, Call, reads, books}
 use Rattle.record.specs.Edges.{C, fullTable}
 use Rattle.record.specs.declared.answer.Checked.{Checked}
 use Rattle.entry.specs.Stored.{lineWidth, slipWidth, keyWidth, markAt, arrivedAt, slipKeyWidth}
-use Rattle.entry.specs.declared.line.Figures.{Figures}
 use Rattle.book.specs.Lent.{Lent}
-use Rattle.book.specs.Booking.{Outcome, book}
+use Rattle.book.specs.Booking.{book}
 use Rattle.book.specs.Asked.{lineAsked}
 use Rattle.book.specs.declared.answer.Booked.{Booked}
 

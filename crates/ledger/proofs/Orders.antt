@@ -1,18 +1,18 @@
 -- Lines and accepted orders are one to one: a figure summed over the lines is summed over the orders, each by the line with its key.
-use Prim.Native.Nat.{ℕ, suc, _+_, _≤_}
+use Prim.Native.Nat.{ℕ, _+_, _≤_}
 use native.Mathlib.Omega.{arith}
-use mathlib.Core.Path.{_≡_, refl, ap, ap₂, _∙_, sym}
-use mathlib.Core.Bool.{Bool, true, false}
+use mathlib.Core.Path.{_≡_, refl, ap, _∙_, sym}
+use mathlib.Core.Bool.{Bool}
 use mathlib.Core.Option.{none, some}
 use mathlib.Core.List.{List, [], _∷_, _++_, map, map-append}
-use lib.ListN.{length, length-append}
+use lib.ListN.{length}
 use Rattle.cells.specs.Bytes.{same}
 use Rattle.cells.proofs.Bools.{split}
 use Rattle.cells.proofs.Lists.{same-refl, same-true}
 use Rattle.ledger.specs.Lists.{keep, total, first, change, given}
 use Rattle.ledger.specs.Book.{Key, Line, Rooms}
-use Rattle.ledger.specs.Booking.{Fit, order, goods, report, lineAt, Answer, done, refused, judge, newLine, arrive, tell, changeLine, enter}
-use Rattle.ledger.specs.History.{State, empty, settle, booking, bookings, keyOf, linesOf, part, recordsOf, isOrder}
+use Rattle.ledger.specs.Booking.{Fit, order, goods, report, lineAt, newLine, arrive, tell, changeLine, enter}
+use Rattle.ledger.specs.History.{State, empty, bookings, keyOf, linesOf, part, recordsOf, isOrder}
 use Rattle.ledger.proofs.Lists.{keep-in, keep-out, total-kept, total-map, keep-swap}
 use Rattle.ledger.proofs.Parts.{arrive-key, tell-key, line-part}
 use Rattle.ledger.proofs.Histories.{Lasts, by-bookings, alone}

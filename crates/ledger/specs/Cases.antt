@@ -1,15 +1,12 @@
 -- Cases for what demand 3 alone does not pin: figures, marks, schools, the limit, the numbers, 17 against 18.
-use Prim.Native.Nat.{ℕ, suc}
+use Prim.Native.Nat.{ℕ}
 use Prim.Native.String.{String}
-use mathlib.Core.Bool.{Bool, _&&_}
-use mathlib.Core.Option.{Option, none, some}
 use mathlib.Core.List.{List, [], _∷_, _++_}
-use lib.Dec.{eqb}
-use Rattle.cells.specs.Bytes.{pick, bytes}
+use Rattle.cells.specs.Bytes.{bytes}
 use Rattle.ledger.specs.Lists.{given}
-use Rattle.ledger.specs.Book.{Key, Hold, J, N, Line, Book, Rooms, ordered, filled, stillOpen, letGo, extra}
+use Rattle.ledger.specs.Book.{Key, Hold, Line, Rooms, ordered, filled, stillOpen, letGo, extra}
 use Rattle.ledger.specs.Booking.{Fit, order, goods, report, Answer, done, refused, judge, lineAt}
-use Rattle.ledger.specs.History.{State, empty, settle, keyOf}
+use Rattle.ledger.specs.History.{State, settle, keyOf}
 
 -- keys: a school of 12 bytes, then supplier, reference and article
 abbrev pub key : String → String → Key

@@ -1,12 +1,12 @@
 -- Demand 3, the statement: what holds of a book after any sequence of bookings from empty.
-use Prim.Native.Nat.{ℕ, _+_, _≤_}
+use Prim.Native.Nat.{_+_, _≤_}
 use mathlib.Core.Path.{_≡_}
 use mathlib.Core.Bool.{false}
 use mathlib.Core.List.{List, [], _∷_}
 use lib.ListN.{length}
 use Rattle.cells.specs.Bytes.{same}
 use Rattle.ledger.specs.Lists.{keep, total}
-use Rattle.ledger.specs.Book.{Key, Book, Rooms, ofSchool, filled, letGo, stillOpen, extra}
+use Rattle.ledger.specs.Book.{Key, Rooms, ofSchool, filled, letGo, stillOpen, extra}
 use Rattle.ledger.specs.Booking.{Test}
 use Rattle.ledger.specs.History.{State, empty, bookings, linesOf, part, recordsOf, onOrder, onSlip, lineFrom, hasSlip}
 

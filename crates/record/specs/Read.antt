@@ -1,6 +1,6 @@
 -- Reading a record: its refusals in their order, the table of its optional fields, and typed records (RULES 4).
 use Prim.Native.Nat.{ℕ, _+_, _*_}
-use mathlib.Core.List.{List, [], _++_}
+use mathlib.Core.List.{List, _++_}
 use lib.Dec.{eqb, ltb}
 use lib.ListN.{length, drop}
 use lib.Seq.{slice}

@@ -1,6 +1,6 @@
 -- A book made by bookings from empty can be saved and loaded.
 use mathlib.Core.Path.{_≡_, refl}
-use mathlib.Core.Bool.{true, false}
+use mathlib.Core.Bool.{true}
 use mathlib.Core.List.{List}
 use Prim.Native.Nat.{ℕ, _≤_}
 use native.Mathlib.Omega.{arith}
@@ -10,12 +10,10 @@ use Rattle.record.specs.declared.layout.Kind.{Kind}
 use Rattle.record.specs.declared.layout.Kind.the-variants.{Order, Goods, Closing, Report}
 use Rattle.reader.proofs.Fitting.{Fitting}
 use Rattle.book.specs.Lent.{Lent, usedLines, usedSlips, allFrom, sound, findLine, findSlip}
-use Rattle.book.specs.Booking.{lineKey, slipKey, copiesIn, markIn, nothingToBook, noCopies, noReference, bookJudged, fitJudged, lineAfter, lentAfter}
-use Rattle.book.specs.declared.answer.Refused.the-variants.{NothingToBook, NoCopies, NoReference}
-use Rattle.book.specs.declared.answer.Verdict.the-variants.{Fits}
+use Rattle.book.specs.Booking.{lineKey, slipKey, copiesIn, markIn, noCopies, bookJudged, lineAfter, lentAfter}
 use Rattle.book.proofs.Fields.{order-key, slip-key-width, order-copies, goods-copies}
 use Rattle.balance.specs.Demand3.{fresh, giveAll}
-use Rattle.balance.proofs.Followed.{passed, order-fits, delivery-fits, report-fits}
+use Rattle.balance.proofs.Followed.{FitPassed, fit-passed, order-fits, delivery-fits, report-fits}
 use Rattle.save.specs.Entries.{linesKept, slipsKept, sumsKept, entriesKept}
 use Rattle.save.specs.Saved.{savedWidth, save}
 use Rattle.restored.specs.Restored.{Orderly}
@@ -28,48 +26,32 @@ use Rattle.restored.proofs.Given.{all-given}
 use Rattle.restored.proofs.BookedBytes.{bookings-bytes}
 use Rattle.restored.proofs.Restored.{load-of-save}
 
--- a record fit to book: none of 13, 11 and 12 stands against it, and it fits the book
-record Fit (k : Kind) (s : List ℕ) (b : Lent) (i : ℕ) : Type 0 where
-  something : nothingToBook k s ≡ false
-  copies : noCopies k s ≡ false
-  named : noReference k s ≡ false
-  fits : bookJudged k s b ≡ Fits i
-
--- the verdict that it fits says so
-fit-so : (k : Kind) (s : List ℕ) (b : Lent) (i : ℕ) → fitJudged k s b ≡ Fits i → Fit k s b i
-unfolding fitJudged
-fit-so k s b i e =
-    let one = passed (nothingToBook k s) NothingToBook _ i e in
-    let two = passed (noCopies k s) NoCopies _ i (one .1) in
-    let three = passed (noReference k s) NoReference _ i (two .1) in
-    record { something = one .0; copies = two .0; named = three .0; fits = three .1 }
-
 -- a record that fits, entered, keeps the book so
 module _ (s : List ℕ) (b : Lent) (i n : ℕ) (o : Ordered b) where
   -- an order
-  order-entered : Fitting Order s n → Fit Order s b i → Ordered (lentAfter Order s b i)
+  order-entered : Fitting Order s n → FitPassed Order s b i → Ordered (lentAfter Order s b i)
   unfolding lentAfter lineAfter noCopies bookJudged
   order-entered fit e =
-      let q = order-fits b i (findLine b (lineKey Order s)) (e .fits) in
+      let q = order-fits b i (findLine b (lineKey Order s)) (e .judged-fit) in
       let ne = eqb-false (copiesIn Order s .0) 0 (e .copies) in
       let d = q .1 .1 in
-      rw d (order-ordered b (lineKey Order s) (copiesIn Order s) o (order-key s n fit) (omega arith) (order-copies s n fit) (q .0) (q .1 .0) (order-key-kept s n fit (e .named)))
+      rw d (order-ordered b (lineKey Order s) (copiesIn Order s) o (order-key s n fit) (omega arith) (order-copies s n fit) (q .0) (q .1 .0) (order-key-kept s n fit (e .referenced)))
 
   -- a delivery
-  goods-entered : Fitting Goods s n → Fit Goods s b i → Ordered (lentAfter Goods s b i)
+  goods-entered : Fitting Goods s n → FitPassed Goods s b i → Ordered (lentAfter Goods s b i)
   unfolding lentAfter lineAfter noCopies bookJudged usedSlips
   goods-entered fit e =
-      let q = delivery-fits b i (lineKey Goods s) (copiesIn Goods s) (findSlip b (slipKey s)) (e .fits) in
+      let q = delivery-fits b i (lineKey Goods s) (copiesIn Goods s) (findSlip b (slipKey s)) (e .judged-fit) in
       let ne = eqb-false (copiesIn Goods s .0) 0 (e .copies) in
       goods-ordered b (lineKey Goods s) (slipKey s) (copiesIn Goods s) i o (slip-key-width s n fit) (omega arith) (goods-copies s n fit) (q .0) (q .1 .0) (q .1 .1 .0) (q .1 .1 .1) (slip-key-kept s n fit (e .something)) (goods-parties s n fit)
 
   -- a report
-  report-entered : Fit Report s b i → Ordered (lentAfter Report s b i)
+  report-entered : FitPassed Report s b i → Ordered (lentAfter Report s b i)
   unfolding lentAfter lineAfter bookJudged
-  report-entered e = report-ordered b (lineKey Report s) (markIn s) i o (report-fits b i (findLine b (lineKey Report s)) (e .fits))
+  report-entered e = report-ordered b (lineKey Report s) (markIn s) i o (report-fits b i (findLine b (lineKey Report s)) (e .judged-fit))
 
   -- a record of any kind; a closing record enters nothing
-  kind-entered : (k : Kind) → Fitting k s n → Fit k s b i → Ordered (lentAfter k s b i)
+  kind-entered : (k : Kind) → Fitting k s n → FitPassed k s b i → Ordered (lentAfter k s b i)
   unfolding lentAfter
   kind-entered Order fit e = order-entered fit e
   kind-entered Goods fit e = goods-entered fit e
@@ -80,7 +62,7 @@ module _ (s : List ℕ) (b : Lent) (i n : ℕ) (o : Ordered b) where
 pub stays-orderly : StaysOrderly
 stays-orderly g records o two =
     let b : Lent = giveAll g records .book in
-    let kept : Ordered b = all-given Ordered (λ k s b i n f q o. kind-entered s b i n o k f (fit-so k s b i q)) records g (ordered (g .book) o two) in
+    let kept : Ordered b = all-given Ordered (λ k s b i n f q o. kind-entered s b i n o k f (fit-passed k s b i q)) records g (ordered (g .book) o two) in
     (orderly b kept, kept .kept .counts)
 
 -- a sound book with no used entries is orderly

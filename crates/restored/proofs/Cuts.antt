@@ -6,7 +6,7 @@ use native.Mathlib.Nat.{zero-add, add-zero, add-assoc}
 use native.Mathlib.Omega.{arith}
 use lib.Dec.{ltb}
 use lib.ListN.{length, getD, take, drop, take-append-drop}
-use lib.Seq.{slice, slice-cons, sets, sets-eq, drop-drop, take-take, getD-take, getD-drop, take-append-add, drop-append-add, getD-append-add, slice-empty, take-at}
+use lib.Seq.{slice, slice-cons, sets, sets-eq, drop-drop, take-append-add, drop-append-add, getD-append-add, slice-empty, take-at}
 use borrow.Author.Tests.{ltb-true}
 use Rattle.cells.specs.Little.{leAt, leBytes}
 use Rattle.cells.proofs.Parts.{take-from}

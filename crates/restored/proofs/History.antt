@@ -1,8 +1,6 @@
 -- An orderly book starts from the history that its entries state: demand 3 from there on.
 use mathlib.Core.Path.{_≡_, _∙_, subst, refl}
 use mathlib.Core.List.{List, _++_, map, append-nil}
-use Prim.Native.Nat.{ℕ}
-use lib.ListN.{length}
 use Rattle.ledger.specs.Book.{Rooms}
 use Rattle.ledger.specs.Booking.{Fit, mostArrived}
 use Rattle.ledger.specs.Demand3.{Promise3}

@@ -9,7 +9,6 @@ use Rattle.record.specs.Samples.{X, Y, Z, put}
 use Rattle.record.specs.Edges.{C}
 use Rattle.record.specs.Values.{orderOf, deliveryOf, reportOf}
 use Rattle.record.specs.declared.values.Order.{Order}
-use Rattle.record.specs.declared.values.Delivery.{Delivery}
 use Rattle.record.specs.declared.values.Report.{Report}
 use Rattle.rules.specs.declared.day.Day.{Day}
 use Rattle.rules.specs.declared.expected.Expected.{Expected}
