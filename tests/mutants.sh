@@ -11,7 +11,7 @@
 #   JUDGE      a shell command; $1 in it is the path of the built program, which is put behind
 #              it where there is no $1
 # A mutant is caught where the judge fails or takes far too long. Where ONLY is set, only the
-# lines that contain it are tried. The last line counts. The exit status is 1 where a mutant
+# lines that contain it are tried. On a terminal the number of the mutant is shown meanwhile. The last line counts. The exit status is 1 where a mutant
 # passes without a reason, is caught though called equivalent, changes nothing or does not
 # compile; 2 where the program itself does not build and pass.
 
@@ -113,9 +113,12 @@ print_table() {
 prepare || { echo "mutants: the program of $list does not build or does not pass" >&2
              head -n 20 "$work/log" >&2; exit 2; }
 : >"$work/ends"
+number=0
 while IFS=$tab read -r file expression words claim; do
     case $file in '#'* | '') continue ;; esac
     case "$file$tab$expression$tab$words" in *"${ONLY:-}"*) ;; *) continue ;; esac
+    number=$((number + 1))
+    [ ! -t 2 ] || printf '\r%d ' "$number" >&2
     end=$(judge_end "$(try_mutant "$file" "$expression")" "$claim")
     tell "$end" "$file" "$expression" "$words"
     printf '%s\t%s\n' "$end" "$file" >>"$work/ends"
