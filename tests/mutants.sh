@@ -61,9 +61,12 @@ prepare() {
 
 # Makes the mutant and gives its end: broken, same (the very same code), passed or caught.
 try_mutant() {
-    [ -f "$work/tree/$1" ] || { echo broken; return; }
-    sed -e "$2" "$1" >"$work/tree/$1" 2>"$work/log" || { echo broken; return; }
-    if cmp -s "$1" "$work/tree/$1"; then
+    if [ ! -f "$work/tree/$1" ]; then
+        echo "no source or header of the program" >"$work/log"
+        echo broken
+    elif ! sed -e "$2" "$1" >"$work/tree/$1" 2>"$work/log"; then
+        echo broken
+    elif cmp -s "$1" "$work/tree/$1"; then
         echo "the expression changes nothing" >"$work/log"
         echo broken
     elif ! compile_for "$1" || ! link_all; then
