@@ -26,6 +26,7 @@ static const char *const words[CLASS_COUNT] = {
     [SLIP_OF_LINE_256_BEFORE] = "18 by a slip of the line 256 places off",
     [COPIES_SAME_LOW_BYTE] = "18 by copies equal in the low byte",
     [COPIES_SAME_MODULO_10000] = "18 by copies equal modulo 10,000",
+    [KEYS_REPEATED] = "keys of lines and slips that repeat in a lent book",
     [LINE_KEYS_ONE_BYTE_APART] = "a stored line whose key is one byte off",
     [SLIP_KEYS_ONE_BYTE_APART] = "a stored slip whose key is one byte off",
     [KEY_FIELD_OF_20] = "a key field of length 20",

@@ -180,6 +180,28 @@ static void book_near_keys(struct dice *dice)
     }
 }
 
+/* Where keys repeat, the first line and the first slip count. */
+static void book_repeated_keys(struct dice *dice)
+{
+    static struct shelf shelf;
+    make_shelf(dice, &shelf, 4, 4);
+    stock_unique(dice, &shelf, 3, 3);
+    uint8_t *first = shelf.slips, *last = shelf.slips + 2 * IN_SLIP;
+    memcpy(shelf.lines + 2 * IN_LINE, shelf.lines, IN_KEY);
+    memcpy(last, first, IN_SLIP_KEY);
+    put_little(first + IN_LINE_OF_SLIP, 2, 0);
+    put_little(first + IN_COPIES, 2, 3);
+    put_little(last + IN_COPIES, 2, 4);
+    insist(book_one(dice, &shelf, GOODS_SHAPE, shelf.lines, 3, first) == 17,
+           "the first slip counts");
+    insist(book_one(dice, &shelf, GOODS_SHAPE, shelf.lines, 4, first) == 18,
+           "the last slip does not count");
+    ask_line(shelf.lines, &shelf);
+    book_one(dice, &shelf, REPORT_SHAPE, shelf.lines, 0, NULL);
+    book_one(dice, &shelf, GOODS_SHAPE, shelf.lines, 5, NULL);
+    came_up(KEYS_REPEATED, 1);
+}
+
 /* Every call on one book, with a record that is valid or not. */
 static void try_all(struct dice *dice, const struct shelf *shelf)
 {
@@ -333,6 +355,8 @@ void compare_bookings(struct dice *dice)
     book_unreadable(dice);
     book_at_limit(dice);
     book_near_keys(dice);
+    for (size_t i = 0; i < 4; i++)
+        book_repeated_keys(dice);
     break_entries(dice);
     break_sizes(dice);
     for (size_t i = 0; i < 5; i++)

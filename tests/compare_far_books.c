@@ -140,6 +140,7 @@ static void refuse_book(struct dice *dice, struct shelf *shelf, enum class class
     expect(class, 1, deliver_new(dice, shelf, key, 7), 20);
     expect(class, 1, ask_line(key, shelf), 20);
     expect(class, 1, both_save(shelf, out, FULL_SAVE), 20);
+    expect(class, 1, both_save(shelf, out, below(dice, IN_SAVED_END)), 20);
 }
 
 /* Each number of a far line past its end; a line past the used ones is not looked at. */

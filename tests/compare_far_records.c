@@ -3,7 +3,7 @@
 
 #include <string.h>
 
-enum { MOST_FIELDS = 64, HEAD = 5, TWO_BYTES = 65536, FAR_OUTPUT = TWO_BYTES + 4000 };
+enum { MOST_FIELDS = 64, HEAD = 5, TWO_BYTES = 65536, FAR_OUTPUT = TWO_BYTES + 4000, STEPS = 4 };
 
 static const uint64_t two_32 = (uint64_t)1 << 32;
 
@@ -66,21 +66,21 @@ static void break_groups_last(struct dice *dice)
 static void write_far_numbers(struct dice *dice)
 {
     static const enum class classes[] = {ID_OVER_2_32, PLACE_OVER_2_32, LENGTH_OVER_2_32};
-    const uint64_t steps[] = {two_32, two_32, two_32 * 5, two_32 << 16, two_32 << 31};
+    const uint64_t steps[STEPS] = {two_32, two_32 * 5, two_32 << 16, two_32 << 31};
     struct sheet sheet;
     make_sheet(dice, &sheet, (enum shape)below(dice, SHAPES), 0);
     for (size_t i = 0; i < 4; i++)
         add_valid_field(dice, &sheet, i % 2 ? 8888 : 1003);
     insist(write_all(&sheet, sheet.count, IN_LONGEST) == 0, "four fields are written");
-    for (size_t i = 0; i < 3 * sheet.count; i++) {
-        size_t right = sheet.table[i];
-        sheet.table[i] = right + steps[below(dice, sizeof steps / sizeof steps[0])];
-        expect(classes[i % 3], sheet.table[i] > two_32,
+    for (size_t i = 0; i < 3 * STEPS * sheet.count; i++) {
+        size_t *number = &sheet.table[i / STEPS], right = *number;
+        *number += steps[i % STEPS];
+        expect(classes[i / STEPS % 3], *number > two_32,
                write_all(&sheet, sheet.count, IN_LONGEST), 9);
-        insist(tally.place == i / 3, "9 stands at the field with the far number");
-        sheet.table[i] = right;
+        insist(tally.place == i / STEPS / 3, "9 stands at the field with the far number");
+        *number = right;
     }
-    for (size_t i = 0; i < 5; i++) {
+    for (size_t i = 0; i < STEPS; i++) {
         sheet.count = steps[i] + i;
         expect(FIELDS_OVER_2_32, sheet.count >= two_32, write_all(&sheet, 4, IN_LONGEST), 8);
     }

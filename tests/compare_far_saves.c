@@ -179,14 +179,15 @@ static void load_full(struct dice *dice)
     }
 }
 
-/* More entries than two bytes count: the two bytes that stand there are too few. */
+/* More entries than two bytes count, with nothing else wrong: the two bytes that stand there
+   are too few. */
 static void load_past_two_bytes(struct dice *dice)
 {
     size_t few = below(dice, 3);
-    size_t length = make_save(dice, saved, TWO_BYTES + few, few, 0);
+    size_t length = make_save(dice, saved, TWO_BYTES + few, 0, 0);
     expect(SAVED_LINES_MODULO_65536, get_little(saved + length - IN_SAVED_LINES_COUNT, 2) == few,
            both_load(saved, length, largest_shelf(dice)), 22);
-    length = make_save(dice, saved, 2, TWO_BYTES + few, 0);
+    length = make_save(dice, saved, 2, TWO_BYTES + few, 1);
     expect(SAVED_SLIPS_MODULO_65536, get_little(saved + length - IN_SAVED_SLIPS_COUNT, 2) == few,
            both_load(saved, length, largest_shelf(dice)), 22);
 }

@@ -11,7 +11,7 @@
 #   JUDGE      a shell command; $1 in it is the path of the built program, which is put behind
 #              it where there is no $1
 # A mutant is caught where the judge fails or takes far too long. Where ONLY is set, only the
-# lines that contain it are tried. The last line counts. The exit status is 1 where a mutant
+# lines that contain it are tried. On a terminal the number of the mutant is shown meanwhile. The last line counts. The exit status is 1 where a mutant
 # passes without a reason, is caught though called equivalent, changes nothing or does not
 # compile; 2 where the program itself does not build and pass.
 
@@ -61,9 +61,12 @@ prepare() {
 
 # Makes the mutant and gives its end: broken, same (the very same code), passed or caught.
 try_mutant() {
-    [ -f "$work/tree/$1" ] || { echo broken; return; }
-    sed -e "$2" "$1" >"$work/tree/$1" 2>"$work/log" || { echo broken; return; }
-    if cmp -s "$1" "$work/tree/$1"; then
+    if [ ! -f "$work/tree/$1" ]; then
+        echo "no source or header of the program" >"$work/log"
+        echo broken
+    elif ! sed -e "$2" "$1" >"$work/tree/$1" 2>"$work/log"; then
+        echo broken
+    elif cmp -s "$1" "$work/tree/$1"; then
         echo "the expression changes nothing" >"$work/log"
         echo broken
     elif ! compile_for "$1" || ! link_all; then
@@ -113,9 +116,12 @@ print_table() {
 prepare || { echo "mutants: the program of $list does not build or does not pass" >&2
              head -n 20 "$work/log" >&2; exit 2; }
 : >"$work/ends"
+number=0
 while IFS=$tab read -r file expression words claim; do
     case $file in '#'* | '') continue ;; esac
     case "$file$tab$expression$tab$words" in *"${ONLY:-}"*) ;; *) continue ;; esac
+    number=$((number + 1))
+    [ ! -t 2 ] || printf '\r%d ' "$number" >&2
     end=$(judge_end "$(try_mutant "$file" "$expression")" "$claim")
     tell "$end" "$file" "$expression" "$words"
     printf '%s\t%s\n' "$end" "$file" >>"$work/ends"
