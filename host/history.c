@@ -23,6 +23,14 @@ enum {
     SHORT_ROOM = SHORT_DIGITS + 1
 };
 
+/* Bytes 0 would end a text before its end; damage must not hide the lines behind it. */
+static void blank_zeros(struct bytes *text)
+{
+    for (size_t i = 0; i < text->length; i++)
+        if (text->start[i] == '\0')
+            text->start[i] = ' ';
+}
+
 /* Reads one of the texts; a missing one has no bytes. */
 static int read_text(const struct own_files *files, enum own which, const char *head,
                      struct bytes *text)
@@ -42,6 +50,8 @@ static int read_text(const struct own_files *files, enum own which, const char *
         complain_system(files->paths[which], "cannot read");
     if (from >= 0)
         close(from);
+    if (done)
+        blank_zeros(text);
     if (done && strncmp((const char *)text->start, head, strlen(head)) != 0) {
         complain(files->paths[which], "this is not a file of " PROGRAM
                  ", which needs the name; move it away");

@@ -157,9 +157,9 @@ run --accept-book taken.book monday.bwa
 expect_code 1 "a book taken on purpose"
 expect_err "left out" "files count for a book taken on purpose"
 expect_not "whole past" err "a book taken on purpose"
-printf 'no line at its end' >>taken.book.log
-printf 'no line at its end' >>taken.book.digests
+printf 'damage \000 and no end' >>taken.book.log
+printf 'damage \000 and no end' >>taken.book.digests
 run taken.book five.bwa
-expect_code 0 "a log that does not end with a line"
+expect_code 0 "a log and digests with damage at their end"
 run taken.book five.bwa
-expect_err "left out" "a log that does not end with a line"
+expect_err "left out" "a log and digests with damage at their end"
