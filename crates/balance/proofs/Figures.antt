@@ -37,7 +37,7 @@ use Rattle.balance.proofs.Followed.{fit-passed, order-fits, delivery-fi
 use Rattle.balance.proofs.Bookable.{bookable, keyed}
 
 -- one rule for figures: those of a stored line are those of the line that it is told as
-figures-told : (key : Key) (l : Stored) → figuresOf l ≡ figuresTold (lineOf key l)
+pub figures-told : (key : Key) (l : Stored) → figuresOf l ≡ figuresTold (lineOf key l)
 unfolding figuresOf filledOf figuresTold lineOf reportOf ordered filled letGo stillOpen extra isN openOf letGoOf
 figures-told key l = go (l .mark) refl
   where
