@@ -1,6 +1,7 @@
 pub mod Accepted
 pub mod Accounts
 pub mod Bookable
+pub mod Computed
 pub mod Demand3
 pub mod Entered
 pub mod Exactly

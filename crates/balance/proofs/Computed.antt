@@ -1,0 +1,90 @@
+-- What demand 3 reads out of records, computed on the samples of RULES 12: kinds, key fields, copies, schools, and the line that a key's own records make.
+use mathlib.Core.Path.{_≡_, refl}
+use mathlib.Core.Bool.{Bool, true, false}
+use mathlib.Core.List.{List, [], _∷_}
+use Prim.Native.Nat.{ℕ}
+use Rattle.cells.specs.Bytes.{bytes, same, all}
+use Rattle.rules.specs.Class.{belongs, allOf, ofClass}
+use Rattle.rules.specs.Number.{numberFrom}
+use Rattle.record.specs.Layout.{layout, total as widthOf, startOf, kindOf}
+use Rattle.record.specs.Values.{fieldBytes}
+use Rattle.record.specs.Samples.{X, Y, Z, put}
+use Rattle.entry.specs.Line.{openOf, letGoOf, filledOf, figuresOf}
+use Rattle.ledger.specs.Lists.{keep, total}
+use Rattle.book.specs.Booking.{keyFields, copiesIn, markIn, refusedNumber, refusedPlace, refusedAs, doneAs}
+use Rattle.book.specs.Cases.{printed}
+use Rattle.balance.specs.Demand3.{isOrder, isDelivery, isReport, copiesOn, keyFieldsIn, slipFieldsIn, sameFields, ofSchool, recordsOf, recordsWith, lastMark, lineFrom}
+
+-- the school of the samples, and another with the same reference
+abbrev ours : List (List ℕ)
+ours = bytes "43210     " ∷ bytes "VD" ∷ []
+
+abbrev theirs : List (List ℕ)
+theirs = bytes "43211     " ∷ bytes "VD" ∷ []
+
+-- the seven fields of the key that X, Y and Z share
+abbrev key : List (List ℕ)
+key =
+    bytes "43210     "
+    ∷ bytes "VD"
+    ∷ bytes "24000     "
+    ∷ bytes "VD"
+    ∷ bytes "A-17      "
+    ∷ bytes "9783442756841"
+    ∷ bytes "EN"
+    ∷ []
+
+-- an order of the other school, and the samples that the desk accepts, with this order among them
+abbrev another : List ℕ
+another = put 4 "43211     " X
+
+abbrev accepted : List (List ℕ)
+accepted =
+    X
+    ∷ another
+    ∷ Y
+    ∷ Z
+    ∷ put 46 "0002" (put 75 "0003" Y)
+    ∷ put 63 "015J" Z
+    ∷ put 46 "0003" (put 75 "0005" Y)
+    ∷ []
+
+pub record Computed : Type 0 where
+  pub order-key : keyFieldsIn X ≡ key
+  pub delivery-key : keyFieldsIn Y ≡ key
+  pub report-key : keyFieldsIn Z ≡ key
+  pub slip : slipFieldsIn Y
+      ≡ bytes "24000     "
+      ∷ bytes "VD"
+      ∷ bytes "43210     "
+      ∷ bytes "VD"
+      ∷ bytes "20240226"
+      ∷ bytes "70012345  "
+      ∷ bytes "0001"
+      ∷ []
+  pub kinds : isOrder X ∷ isDelivery X ∷ isDelivery Y ∷ isReport Y ∷ isReport Z ∷ isOrder Z ∷ []
+      ≡ true ∷ false ∷ true ∷ false ∷ true ∷ false ∷ []
+  pub copies : copiesOn X ∷ copiesOn Y ∷ copiesOn Z ∷ [] ≡ 10 ∷ 4 ∷ 0 ∷ []
+  pub school : ofSchool ours (keyFieldsIn Y) ∷ ofSchool theirs (keyFieldsIn Y) ∷ ofSchool theirs (keyFieldsIn another) ∷ []
+      ≡ true ∷ false ∷ true ∷ []
+  pub theirs-alone : recordsOf theirs accepted ≡ another ∷ []
+  -- the line of the samples' key: 10 ordered, 12 arrived, the last mark a J; without its order there is none
+  pub line : printed (lineFrom (recordsWith key accepted)) ≡ 0 ∷ 10 ∷ 10 ∷ 0 ∷ 0 ∷ 2 ∷ []
+  pub let-go : printed (lineFrom (X ∷ Y ∷ Z ∷ [])) ≡ 0 ∷ 10 ∷ 4 ∷ 0 ∷ 6 ∷ 0 ∷ []
+  pub no-line : printed (lineFrom (Y ∷ Z ∷ [])) ≡ 16 ∷ 0 ∷ 0 ∷ 0 ∷ 0 ∷ 0 ∷ []
+
+pub computed : Computed
+unfolding same all belongs allOf ofClass numberFrom layout widthOf startOf kindOf fieldBytes openOf letGoOf filledOf figuresOf keep total keyFields copiesIn markIn refusedNumber refusedPlace refusedAs doneAs isOrder isDelivery isReport copiesOn keyFieldsIn slipFieldsIn sameFields ofSchool recordsOf recordsWith lastMark lineFrom
+computed = record {
+  order-key = refl;
+  delivery-key = refl;
+  report-key = refl;
+  slip = refl;
+  kinds = refl;
+  copies = refl;
+  school = refl;
+  theirs-alone = refl;
+  line = refl;
+  let-go = refl;
+  no-line = refl;
+}
