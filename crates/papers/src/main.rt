@@ -16,11 +16,11 @@ use record::layout::kind_of;
 use shown::number;
 use shown::show_values;
 use shown::text;
+use writer::write;
 use writer::write_delivery;
 use writer::write_order;
 use writer::write_report;
 use writing::answer::Written;
-use writing::write;
 
 const CR: u8 = 13;
 

@@ -23,7 +23,7 @@ use Rattle.roundtrip.specs.Record.{Parts, fixedPart, textOf, MakesRecord
 abbrev pub written : Outcome → List ℕ
 written o = take (o .said .length) (o .out)
 
--- the two calls that the demand speaks of, as their contracts fix them: `reader::check` and `writing::write`
+-- the two calls that the demand speaks of, as their contracts fix them: `reader::check` and `writer::write`
 abbrev pub readCall : List ℕ → List ℕ → Read
 readCall s lent = check s lent
 

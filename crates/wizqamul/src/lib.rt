@@ -33,7 +33,7 @@ pub extern "C" fn wq_write(
 ) -> Written
     ensures { λ r. ⌜ written r (now (out .exit)) ≡ write (now (fixed .entry)) (now (table .entry)) fields (now (contents .entry)) (now (out .entry)) ⌝ }
 {
-    writing::write(fixed, table, fields, contents, out)
+    writer::write(fixed, table, fields, contents, out)
 }
 
 // Books a record into the lent book.

@@ -1,11 +1,11 @@
--- `writing::output::put_field` meets its contract: the star, the digits and the content stand one after the other.
+-- `writer::output::put_field` meets its contract: the star, the digits and the content stand one after the other.
 use Prim.Native.Nat.{_+_}
 use native.Mathlib.Omega.{arith}
 use Rattle.rules.proofs.Parts.{part-most}
 use Rattle.writing.proofs.Records.{inside-most, field-stored}
 use borrow.Author.Needs.{needs}
-use Rattle.writing.proofs.output.put_field.Statement.{statement}
-use Rattle.writing.proofs.output.put_field.Tie as tie
+use Rattle.writer.proofs.output.put_field.Statement.{statement}
+use Rattle.writer.proofs.output.put_field.Tie as tie
 
 put-byte-requires : tie.Need-put-byte-requires
 put-byte-requires c κs = search needs

@@ -1,8 +1,8 @@
--- `writing::judge_length` meets its contract, test by test.
+-- `writer::judge_length` meets its contract, test by test.
 use borrow.Author.Tests.{lt-ltb, le-ltb}
 use Rattle.writing.specs.Write.{lengthJudged}
-use Rattle.writing.proofs.judge_length.Statement.{statement}
-use Rattle.writing.proofs.judge_length.Tie as tie
+use Rattle.writer.proofs.judge_length.Statement.{statement}
+use Rattle.writer.proofs.judge_length.Tie as tie
 
 returns : tie.Need-returns
 unfolding lengthJudged

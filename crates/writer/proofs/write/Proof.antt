@@ -1,13 +1,13 @@
--- `writing::write` meets its contract: the output stays as it was, or the record is stored at its front.
+-- `writer::write` meets its contract: the output stays as it was, or the record is stored at its front.
 use mathlib.Core.Path.{_≡_, _∙_, sym}
 use native.Mathlib.Omega.{arith}
 use Rattle.writing.specs.Write.{writeJudged}
 use Rattle.writing.specs.declared.answer.Verdict.{Verdict}
 use Rattle.writing.proofs.Stages.{write-refused, write-fits}
 use Rattle.writing.proofs.Fitting.{fitting, fits-inside, fits-width, fits-stored}
 use borrow.Author.Needs.{needs}
-use Rattle.writing.proofs.write.Statement.{statement}
-use Rattle.writing.proofs.write.Tie as tie
+use Rattle.writer.proofs.write.Statement.{statement}
+use Rattle.writer.proofs.write.Tie as tie
 
 -- what is said of the record
 said : (c : tie.After-judge-write) (v : Verdict) → c .judge-write .result ≡ v

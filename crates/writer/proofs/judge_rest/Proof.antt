@@ -1,16 +1,16 @@
--- `writing::judge_rest` meets its contract, stage by stage.
+-- `writer::judge_rest` meets its contract, stage by stage.
 use mathlib.Core.Path.{_≡_, _∙_, sym}
 use Rattle.record.specs.Layout.{kindOf}
 use Rattle.record.specs.Contents.{noMember}
 use Rattle.record.specs.declared.layout.Kinded.the-variants.{Known}
 use Rattle.writing.specs.Write.{entries, fieldsJudged, restJudged}
 use Rattle.writing.specs.declared.answer.Verdict.{Verdict}
 use Rattle.writing.proofs.Widths.{record-wide, capped-judged}
 use Rattle.writing.proofs.Stages.{many-refused, table-refused, fields-refused, fields-fit}
 use Rattle.writing.proofs.Fitting.{fields-inside}
 use borrow.Author.Needs.{needs}
-use Rattle.writing.proofs.judge_rest.Statement.{statement}
-use Rattle.writing.proofs.judge_rest.Tie as tie
+use Rattle.writer.proofs.judge_rest.Statement.{statement}
+use Rattle.writer.proofs.judge_rest.Tie as tie
 
 -- the kind that the first field names
 known : (c : tie.After-known-told)

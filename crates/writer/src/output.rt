@@ -7,16 +7,16 @@ ghost use lib.Seq.{sets};
 ghost use Rattle.record.specs.Layout.{mostFields};
 ghost use Rattle.record.specs.Fields.{headWidth};
 ghost use Rattle.record.specs.Read.{entryWidth};
 ghost use Rattle.writing.specs.Widths.{widthAfter, allInside};
 ghost use Rattle.writing.specs.Write.{entries, inside, optionalIn, optionalOf, fieldText, recordText};
-use crate::digits::put_byte;
-use crate::digits::put_digits;
-use crate::entries::Entry;
-use crate::entries::entry_at;
 use cells::part;
 use cells::paste_at;
 use record::fields::HEAD_WIDTH;
 use rules::class::STAR;
+use writing::digits::put_byte;
+use writing::digits::put_digits;
+use writing::entries::Entry;
+use writing::entries::entry_at;
 
 const ID_DIGITS: usize = 4;
 

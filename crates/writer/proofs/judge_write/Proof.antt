@@ -1,13 +1,13 @@
--- `writing::judge_write` meets its contract, by whether the fixed part fits.
+-- `writer::judge_write` meets its contract, by whether the fixed part fits.
 use mathlib.Core.Path.{_≡_, _∙_, sym}
 use Rattle.record.specs.Layout.{kindOf}
 use Rattle.writing.specs.Write.{fixedJudged}
 use Rattle.writing.specs.declared.answer.Verdict.{Verdict}
 use Rattle.writing.proofs.Stages.{fixed-refused, fixed-passed}
 use Rattle.writing.proofs.Fitting.{fixed-most}
 use borrow.Author.Needs.{needs}
-use Rattle.writing.proofs.judge_write.Statement.{statement}
-use Rattle.writing.proofs.judge_write.Tie as tie
+use Rattle.writer.proofs.judge_write.Statement.{statement}
+use Rattle.writer.proofs.judge_write.Tie as tie
 
 -- what is said of the fixed part
 said : (c : tie.After-judge-fixed) (v : Verdict) → c .judge-fixed .result ≡ v

@@ -1,17 +1,17 @@
--- `writing::output::put_record` meets its contract. The invariant: the fields that are left, stored from where the last one ends, make of the output what all of them make of it after the fixed part.
+-- `writer::output::put_record` meets its contract. The invariant: the fields that are left, stored from where the last one ends, make of the output what all of them make of it after the fixed part.
 use mathlib.Core.Path.{_≡_, refl, _∙_}
 use mathlib.Core.Bool.{true}
 use Prim.Native.Nat.{_-_, _*_, _≤_}
 use native.Mathlib.Omega.{arith}
 use lib.ListN.{length, drop}
 use lib.Seq.{sets}
 use Rattle.writing.specs.Widths.{widthAfter, allInside}
 use Rattle.writing.specs.Write.{entries, optionalOf, optionalText}
 use Rattle.writing.proofs.Tables.{entry-here}
 use Rattle.writing.proofs.Records.{record-stored, width-least, first-fits, rest-fits, first-inside, rest-inside, text-next, text-end}
 use borrow.Author.Needs.{needs}
-use Rattle.writing.proofs.output.put_record.Statement.{statement}
-use Rattle.writing.proofs.output.put_record.Tie as tie
+use Rattle.writer.proofs.output.put_record.Statement.{statement}
+use Rattle.writer.proofs.output.put_record.Tie as tie
 
 abbrev Inv-loop : tie.InvT-loop
 Inv-loop out₀ fixed table count contents at₀ i₀ t9 out at i =
