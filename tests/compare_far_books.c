@@ -222,8 +222,24 @@ static void break_counts(struct dice *dice)
     }
 }
 
+/* One entry more than there is room for, more often than there are pairs of what can stand
+   behind the room: a line or a slip that would count is among it. */
+static void overuse_rooms(struct dice *dice)
+{
+    enum { LINES = 3, SLIPS = 4, TIMES = 100 };
+    static struct shelf shelf;
+    make_shelf(dice, &shelf, LINES, SLIPS);
+    stock_unique(dice, &shelf, LINES, SLIPS);
+    for (size_t i = 0; i < TIMES; i++) {
+        shelf.used[0] = LINES + i % 2;
+        shelf.used[1] = SLIPS + (i + 1) % 2;
+        refuse_book(dice, &shelf, USED_ONE_OVER);
+    }
+}
+
 void compare_far_books(struct dice *dice)
 {
+    overuse_rooms(dice);
     fill_rooms(dice, MOST_LINES, MOST_SLIPS);
     fill_rooms(dice, between(dice, 61, 199), between(dice, 61, 199));
     fill_rooms(dice, between(dice, 201, 511), between(dice, 201, 1023));

@@ -179,6 +179,23 @@ static void load_full(struct dice *dice)
     }
 }
 
+/* A slip of a far line with the school, and with the supplier, of another. */
+static void load_far_parties(struct dice *dice)
+{
+    enum { LINES = 300, SLIPS = 3 };
+    size_t length = make_mixed_save(dice, LINES, SLIPS);
+    size_t line = between(dice, 256, LINES - 1);
+    uint8_t *slip = saved_slip(LINES, below(dice, SLIPS)), *school = slip + 1 + IN_PARTY;
+    put_little(slip + SAVED_LINE_OF_SLIP, 2, line);
+    memcpy(school, saved_line(line) + 1, IN_PARTY);
+    insist(both_load(saved, length, largest_shelf(dice)) == 0, "a slip of a far line loads");
+    memcpy(school, saved_line(below(dice, 256)) + 1, IN_PARTY);
+    expect(SAVED_PARTY_OF_LINE_FROM_256, 1, both_load(saved, length, largest_shelf(dice)), 22);
+    memcpy(school, saved_line(line) + 1, IN_PARTY);
+    slip[1] = slip[1] == '7' ? '8' : '7';
+    expect(SAVED_PARTY_OF_LINE_FROM_256, 1, both_load(saved, length, largest_shelf(dice)), 22);
+}
+
 /* More entries than two bytes count, with nothing else wrong: the two bytes that stand there
    are too few. */
 static void load_past_two_bytes(struct dice *dice)
@@ -258,6 +275,7 @@ void compare_far_saves(struct dice *dice)
     load_two_sums(dice);
     load_mixed_sums(dice);
     load_full(dice);
+    load_far_parties(dice);
     load_past_two_bytes(dice);
     load_far_lines_of_slips(dice);
     load_lost_slips(dice);
