@@ -11,9 +11,10 @@
 #   JUDGE      a shell command; $1 in it is the path of the built program, which is put behind
 #              it where there is no $1
 # A mutant is caught where the judge fails or takes far too long. Where ONLY is set, only the
-# lines that contain it are tried. On a terminal the number of the mutant is shown meanwhile. The last line counts. The exit status is 1 where a mutant
-# passes without a reason, is caught though called equivalent, changes nothing or does not
-# compile; 2 where the program itself does not build and pass.
+# lines that contain it are tried. On a terminal the number of the mutant is shown meanwhile.
+# The last line counts. The exit status is 1 where a mutant passes without a reason, is caught
+# though called equivalent, changes nothing or does not compile; 2 where the program itself
+# does not build and pass.
 
 [ $# -eq 5 ] && [ -r "$1" ] || { sed -n '2,3s/^# //p' "$0" >&2; exit 2; }
 list=$1 sources=$2 compile=$3 libraries=$4 judge=$5

@@ -23,7 +23,7 @@ use Rattle.book.specs.Asked.{lineAsked}
 use Rattle.book.specs.declared.answer.Refused.the-variants.{Unsound}
 use Rattle.balance.specs.Told.{told, roomsOf, fitOf}
 use Rattle.balance.specs.Demand3.{keyFieldsIn, sameFields, ofSchool, recordsOf, recordsWith, lineFrom, Given, fresh, give, giveAll, Accounts, Demand3}
-use Rattle.balance.specs.Joined.{stateTold, numberOf}
+use Rattle.balance.specs.Joined.{stateTold}
 use Rattle.balance.proofs.Soundness.{Kept}
 use Rattle.balance.proofs.Accepted.{Refuses, Accepts, refused-or-accepted}
 use Rattle.balance.proofs.Bookable.{Bookable}
@@ -67,7 +67,7 @@ all-answered rooms (s ∷ ss) g kept lent h e = go (refused-or-accepted s (g .bo
     answered =
         let b = h .0 in
         numbers-agree s (g .book) (b .fields) (b .kind) (kept .is-sound) (b .read) (b .known) (b .something) (b .copies) (b .referenced)
-        ∙ rw (lent, first-accepted rooms (fitOf s) (map fitOf ss) (stateTold g) e) (unfold numberOf in refl)
+        ∙ rw (lent, first-accepted rooms (fitOf s) (map fitOf ss) (stateTold g) e) refl
 
     go : Refuses (book s (g .book)) (g .book) ⊎ Accepts s (g .book)
         → ((n : Given) → Kept (n .book) → roomsOf (n .book) ≡ rooms → Each Bookable ss → AllAccepted rooms ss n → giveAll n ss .accepted ≡ n .accepted ++ ss)

@@ -18,7 +18,7 @@ use Rattle.record.specs.declared.layout.Kinded.the-variants.{Known}
 use Rattle.entry.specs.Stored.{mostArrived, lineAt, keyAt, keyIs, slipLineAt, slipCopiesAt}
 use Rattle.ledger.specs.Lists.{given, found}
 use Rattle.ledger.specs.Book.{Key, Order as Ordering, Goods as Arrival, Report as Telling}
-use Rattle.ledger.specs.Booking.{order, goods, report, isSame, firstOf, tests, judge, mostArrived as limit}
+use Rattle.ledger.specs.Booking.{order, goods, report, isSame, firstOf, tests, judge, mostArrived as limit, numberOf}
 use Rattle.book.specs.Lent.{Lent, usedLines, usedSlips, lineRoom, slipRoom, sound, findLine, findSlip}
 use Rattle.book.specs.Booking.{refusedNumber, lineKey, slipKey, copiesIn, markIn, nothingToBook, noCopies, noReference, orderJudged, slipJudged, arrivalJudged, goodsJudged, deliveryJudged, reportJudged, bookJudged, fitJudged, refusedAs, doneAs, enteredAs, settled, bookAs, bookKind, bookRead, book}
 use Rattle.book.specs.declared.seek.Found.{Found}
@@ -26,7 +26,7 @@ use Rattle.book.specs.declared.seek.Found.the-variants.{At, Nothing}
 use Rattle.book.specs.declared.answer.Verdict.{Verdict}
 use Rattle.book.specs.declared.answer.Verdict.the-variants.{Refuse, Fits}
 use Rattle.balance.specs.Told.{slipTold, lineTold, told, roomsOf, holdOf, fitAs, fitKind, fitOf}
-use Rattle.balance.specs.Joined.{numberOf, NumbersAgree}
+use Rattle.balance.specs.Joined.{NumbersAgree}
 use Rattle.balance.proofs.Found.{same-turned, no-line, line-found, no-slip, slip-found, lines-told, slips-told}
 
 -- the answer number of a verdict
@@ -64,7 +64,7 @@ limit-turned a b =
 module _ (b : Lent) (key : Key) where
   -- an order
   order-number : (o : Ordering) (f : Found) → findLine b key ≡ f → verdictNumber (orderJudged b f) ≡ numberOf (judge (roomsOf b) (told b) (order key o))
-  unfolding orderJudged verdictNumber refusedNumber judge tests firstOf found roomsOf numberOf
+  unfolding orderJudged verdictNumber refusedNumber judge tests firstOf found roomsOf
   order-number o (At i) e = rw (line-found b key i e) refl
   order-number o Nothing e =
       rw (no-line b key e, lines-told b, room-turned (usedLines b) (lineRoom b))
@@ -72,7 +72,7 @@ module _ (b : Lent) (key : Key) where
 
   -- a delivery whose slip key is booked
   slip-number : (g : Arrival) (j : ℕ) → findSlip b (g .slip) ≡ At j → verdictNumber (slipJudged b key (copies (g .copies)) j) ≡ numberOf (judge (roomsOf b) (told b) (goods key g))
-  unfolding slipJudged verdictNumber refusedNumber judge tests firstOf given found isSame slipTold keyIs numberOf
+  unfolding slipJudged verdictNumber refusedNumber judge tests firstOf given found isSame slipTold keyIs
   slip-number g j e =
       rw (slip-found b (g .slip) j e, same-turned key (keyAt (b .lines) (slipLineAt (b .slips) j)), equal-turned (g .copies) (slipCopiesAt (b .slips) j .0))
       (split (same (keyAt (b .lines) (slipLineAt (b .slips) j)) key && eqb (slipCopiesAt (b .slips) j .0) (g .copies)) (λ h. rw h refl) (λ h. rw h refl))
@@ -80,7 +80,7 @@ module _ (b : Lent) (key : Key) where
   -- a delivery whose slip key is new
   goods-number : (g : Arrival) (f : Found) → findSlip b (g .slip) ≡ Nothing → findLine b key ≡ f
       → verdictNumber (goodsJudged b (copies (g .copies)) f) ≡ numberOf (judge (roomsOf b) (told b) (goods key g))
-  unfolding goodsJudged arrivalJudged verdictNumber refusedNumber judge tests firstOf given found roomsOf limit lineTold numberOf
+  unfolding goodsJudged arrivalJudged verdictNumber refusedNumber judge tests firstOf given found roomsOf limit lineTold
   goods-number g Nothing e h = rw (no-slip b (g .slip) e, no-line b key h) refl
   goods-number g (At i) e h =
       let n : ℕ = lineAt (b .lines) i .arrived .0 + g .copies in
@@ -96,7 +96,7 @@ module _ (b : Lent) (key : Key) where
 
   -- a report
   report-number : (m : Telling) (f : Found) → findLine b key ≡ f → verdictNumber (reportJudged f) ≡ numberOf (judge (roomsOf b) (told b) (report key m))
-  unfolding reportJudged verdictNumber refusedNumber judge tests firstOf found numberOf
+  unfolding reportJudged verdictNumber refusedNumber judge tests firstOf found
   report-number m (At i) e = rw (line-found b key i e) refl
   report-number m Nothing e = rw (no-line b key e) refl
 

@@ -14,7 +14,7 @@ use Rattle.record.specs.declared.layout.Kind.{Kind}
 use Rattle.record.specs.declared.layout.Kinded.the-variants.{Known}
 use Rattle.entry.specs.declared.line.Figures.{Figures}
 use Rattle.ledger.specs.Book.{Line, ordered, filled, letGo, stillOpen, extra}
-use Rattle.ledger.specs.Booking.{Answer, done, refused, judge, lineAt}
+use Rattle.ledger.specs.Booking.{numberOf, judge, lineAt}
 use Rattle.ledger.specs.History.{State}
 use Rattle.ledger.specs.Demand3.{Promise3}
 use Rattle.book.specs.Lent.{Lent, sound}
@@ -46,11 +46,6 @@ AskedTells = (fields : List (List ℕ)) (b : Lent)
 abbrev pub BookedTells : Type 0
 BookedTells = (s : List ℕ) (b : Lent) → length (b .used) ≡ 2 → bookCall s b .said .answer ≡ 0
     → askCall (keyFieldsIn s) (bookCall s b .lent) ≡ bookCall s b .said
-
--- the answer number of the rule on lists
-unfoldable pub numberOf : Answer → ℕ
-numberOf done = 0
-numberOf (refused n) = n
 
 -- of a record that is read and has something to book, booking and the rule on lists give one number
 abbrev pub NumbersAgree : Type 0

@@ -35,6 +35,11 @@ pub data Answer : Type 0 where
   done : Answer
   refused : ℕ → Answer
 
+-- its number, as the calls give it
+abbrev pub numberOf : Answer → ℕ
+numberOf done = 0
+numberOf (refused n) = n
+
 -- the first test that holds gives its number
 unfoldable pub firstOf : List Test → Answer
 firstOf [] = done

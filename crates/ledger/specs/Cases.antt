@@ -5,7 +5,7 @@ use mathlib.Core.List.{List, [], _∷_, _++_}
 use Rattle.cells.specs.Bytes.{bytes}
 use Rattle.ledger.specs.Lists.{given}
 use Rattle.ledger.specs.Book.{Key, Hold, Line, Rooms, ordered, filled, stillOpen, letGo, extra}
-use Rattle.ledger.specs.Booking.{Fit, order, goods, report, Answer, done, refused, judge, lineAt}
+use Rattle.ledger.specs.Booking.{Fit, order, goods, report, Answer, done, refused, judge, lineAt, numberOf}
 use Rattle.ledger.specs.History.{State, settle, keyOf}
 
 -- keys: a school of 12 bytes, then supplier, reference and article
@@ -34,10 +34,6 @@ telling k h = report k (record { hold = h })
 -- what the desk prints of a record: answer, ordered, filled, open, let go, extra
 abbrev pub Said : Type 0
 Said = List ℕ
-
-abbrev pub numberOf : Answer → ℕ
-numberOf done = 0
-numberOf (refused n) = n
 
 abbrev pub figuresOf : Line → Said
 figuresOf l = ordered l ∷ filled l ∷ stillOpen l ∷ letGo l ∷ extra l ∷ []
