@@ -2,13 +2,15 @@
  *
  * One desk orders books for many schools. Orders (B101) go out to wholesalers; deliveries
  * (L101) and reports (M101) come back mixed. The library reads and writes these records,
- * books them into one shared book, and tells for each order line how many copies are
- * ordered, filled, open, let go or extra. The book can be saved as bytes and loaded again.
+ * books them into one shared book, for the schools of a roster alone, and tells for each
+ * order line how many copies are ordered, filled, open, let go or extra. The book can be
+ * saved as bytes and loaded again.
  *
  * It opens no files, takes no memory of its own and keeps nothing between two calls: you
  * lend it all bytes for the length of one call. No call asks anything of you except that
  *   - each pointer is valid for the length given with it, and `used` for two numbers;
  *     no pointer is null, also where the length is 0;
+ *   - a pointer to numbers or schools is aligned for them, as any array of them is;
  *   - a part that the call writes overlaps no other part. Parts that are only read may
  *     overlap: a key for wq_line may be read straight out of a line entry.
  * Any bytes and any numbers may be handed over; those that are wrong are refused.
@@ -36,7 +38,11 @@
  *         size_t used[WQ_USED_NUMBERS] = {0, 0};
  *         const char *record = "B10143210     VD24000     VD20240219A-17      "
  *                              "9783442756841EN0010ST*9999";
+ *         wq_school school = {.ceiling = 500};
+ *         memcpy(school.address, "43210     ", WQ_ADDRESS_WIDTH);
+ *         memcpy(school.qualifier, "VD", WQ_QUALIFIER_WIDTH);
  *         wq_booked booked = wq_book((const uint8_t *)record, strlen(record),
+ *                                    (const uint8_t *)&school, sizeof school,
  *                                    lines, sizeof lines, slips, sizeof slips, used);
  *         if (booked.answer != WQ_DONE) {
  *             printf("refused: %d\n", (int)booked.answer);
@@ -152,6 +158,20 @@ extern "C" {
 #define WQ_TABLE_LENGTH 2
 #define WQ_FULL_TABLE (WQ_MOST_FIELDS * WQ_TABLE_NUMBERS)   /* 192 numbers */
 
+/* ---- The roster -----------------------------------------------------------------------
+ * The desk's own schools, each with a ceiling: the most copies that may be open for it. At
+ * most 64 entries of 16 bytes; the first entry with an account (address and qualifier)
+ * speaks for it. On a roster of no entries nobody stands. Entries are not judged: one with an
+ * address that no record can have is never found. An array of wq_school is a roster: in
+ * memory it is the bytes of its entries, so it is lent to both calls that take one. */
+#define WQ_MOST_SCHOOLS 64
+#define WQ_SCHOOL_WIDTH 16       /* bytes of an entry */
+#define WQ_SCHOOL_ADDRESS 0      /* where each part starts in its entry */
+#define WQ_SCHOOL_QUALIFIER 10
+#define WQ_SCHOOL_CEILING 12     /* 4 bytes, unsigned, lowest byte first */
+#define WQ_CEILING_WIDTH 4
+#define WQ_HIGHEST_CEILING 4294967295u
+
 /* ---- The lent book --------------------------------------------------------------------
  * A book is `lines` (room for 1 to 512 entries), `slips` (room for 1 to 1,024 entries) and
  * `used` (how many of each are in use). Room lengths are in bytes and a whole number of
@@ -246,10 +266,12 @@ extern "C" {
 #define WQ_SLIP_REPEATED 17    /* The slip is booked already, same line and quantity. */
 #define WQ_SLIP_DIFFERS 18     /* The slip is booked already with another line or quantity. */
 #define WQ_SLIPS_FULL 19       /* All slips of the room are used. */
-#define WQ_BOOK_UNSOUND 20     /* The lent book is unsound, or a room has a wrong size. */
+#define WQ_BOOK_UNSOUND 20     /* The lent book is unsound, or a room or roster has a wrong size. */
 #define WQ_ARRIVED_LIMIT 21    /* More than 9,999,999 copies would have arrived on a line. */
 #define WQ_SAVE_INVALID 22     /* The bytes are not exactly one valid save. */
 #define WQ_TOO_SMALL 23        /* The lent output, table or book is too small. */
+#define WQ_NOT_ON_ROSTER 24    /* The school's account is not on the roster. */
+#define WQ_CEILING_PASSED 25   /* The order would bring the school's open copies above its ceiling. */
 
 /* ---- Results -------------------------------------------------------------------------- */
 typedef struct { uint64_t answer, place, fields; } wq_checked;
@@ -257,6 +279,14 @@ typedef struct { uint64_t answer, place, length; } wq_written;
 typedef struct { uint64_t answer, place, ordered, filled, still_open, let_go, extra; } wq_booked;
 typedef struct { uint64_t answer, place, length; } wq_saved;
 typedef struct { uint64_t answer, place; } wq_loaded;
+typedef struct { uint64_t answer, place, ceiling; } wq_account_told;
+
+/* An entry of the roster, 16 bytes with none between its parts. */
+typedef struct {
+    uint8_t address[10];
+    uint8_t qualifier[2];
+    uint32_t ceiling;
+} wq_school;
 
 /* ---- Calls ---------------------------------------------------------------------------- */
 
@@ -282,7 +312,7 @@ wq_checked wq_check(const uint8_t *record, size_t record_length, size_t *table, 
  *   23  `out` is too small; place 0. */
 wq_written wq_write(const uint8_t *fixed, size_t fixed_length, const size_t *table, size_t table_length, size_t fields, const uint8_t *contents, size_t contents_length, uint8_t *out, size_t out_length);
 
-/* Books one record and gives its line's figures. An order adds a line and 1 to used[0]; a
+/* Books one record for a school of the roster and gives its line's figures. An order adds a line and 1 to used[0]; a
  * delivery adds a slip and 1 to used[1], and adds its copies to its line's arrived; a report
  * sets its line's mark. Nothing else changes, and the record never does.
  *   filled      the smaller of ordered and arrived
@@ -291,9 +321,14 @@ wq_written wq_write(const uint8_t *fixed, size_t fixed_length, const size_t *tab
  *   still_open  ordered minus filled where the last mark is not N, else 0
  * A delivery after an N still fills. A record booked twice changes nothing the second time
  * (14, 17), but a report sets its mark each time.
- * Refusals: 20, 1 to 10, 13, 11, 12; then for an order 14, 15; for a delivery 17 or 18, 16,
- * 21, 19; for a report 16. */
-wq_booked wq_book(const uint8_t *record, size_t record_length, uint8_t *lines, size_t lines_length, uint8_t *slips, size_t slips_length, size_t *used);
+ * An order is refused (25) where the open copies of all used lines of its school and its own
+ * quantity together are above the school's ceiling. A report that opens copies again is never
+ * refused for it.
+ * The roster's length is in bytes; one that is not a whole number of entries, or more than
+ * 64 of them, is 20.
+ * Refusals: 20, 1 to 10, 13, 11, 12, 24; then for an order 14, 25, 15; for a delivery 17 or
+ * 18, 16, 21, 19; for a report 16. */
+wq_booked wq_book(const uint8_t *record, size_t record_length, const uint8_t *roster, size_t roster_length, uint8_t *lines, size_t lines_length, uint8_t *slips, size_t slips_length, size_t *used);
 
 /* Gives the figures of the line with this key. The seven key fields have the widths above,
  * filled with blanks; one of another length matches no line. Changes nothing.
@@ -318,6 +353,12 @@ wq_saved wq_save(const uint8_t *lines, size_t lines_length, const uint8_t *slips
  * that repeat, or a line with more than 9,999,999 arrived; 23 where the save is valid but
  * has more lines or slips than the rooms. */
 wq_loaded wq_load(const uint8_t *saved, size_t saved_length, uint8_t *lines, size_t lines_length, uint8_t *slips, size_t slips_length, size_t *used);
+
+/* Gives the ceiling of the first school with this account, as wq_book would find it. `count`
+ * counts schools, and `schools` is aligned to 4 bytes. An address or a qualifier of another
+ * width than those above is no school's. Changes nothing.
+ * Refusals: 20 where there are more than 64 schools, then 24. */
+wq_account_told wq_account(const wq_school *schools, size_t count, const uint8_t *address, size_t address_length, const uint8_t *qualifier, size_t qualifier_length);
 
 #ifdef __cplusplus
 }
