@@ -266,12 +266,12 @@ extern "C" {
 #define WQ_SLIP_REPEATED 17    /* The slip is booked already, same line and quantity. */
 #define WQ_SLIP_DIFFERS 18     /* The slip is booked already with another line or quantity. */
 #define WQ_SLIPS_FULL 19       /* All slips of the room are used. */
-#define WQ_BOOK_UNSOUND 20     /* The lent book is unsound, or a room or roster has a wrong size. */
+#define WQ_BOOK_UNSOUND 20     /* The book is unsound, or a room or roster has a wrong size. */
 #define WQ_ARRIVED_LIMIT 21    /* More than 9,999,999 copies would have arrived on a line. */
 #define WQ_SAVE_INVALID 22     /* The bytes are not exactly one valid save. */
 #define WQ_TOO_SMALL 23        /* The lent output, table or book is too small. */
 #define WQ_NOT_ON_ROSTER 24    /* The school's account is not on the roster. */
-#define WQ_CEILING_PASSED 25   /* The order would bring the school's open copies above its ceiling. */
+#define WQ_CEILING_PASSED 25   /* The order would bring the school above its ceiling. */
 
 /* ---- Results -------------------------------------------------------------------------- */
 typedef struct { uint64_t answer, place, fields; } wq_checked;
@@ -312,9 +312,10 @@ wq_checked wq_check(const uint8_t *record, size_t record_length, size_t *table, 
  *   23  `out` is too small; place 0. */
 wq_written wq_write(const uint8_t *fixed, size_t fixed_length, const size_t *table, size_t table_length, size_t fields, const uint8_t *contents, size_t contents_length, uint8_t *out, size_t out_length);
 
-/* Books one record for a school of the roster and gives its line's figures. An order adds a line and 1 to used[0]; a
- * delivery adds a slip and 1 to used[1], and adds its copies to its line's arrived; a report
- * sets its line's mark. Nothing else changes, and the record never does.
+/* Books one record for a school of the roster and gives its line's figures. An order adds a
+ * line and 1 to used[0]; a delivery adds a slip and 1 to used[1], and adds its copies to its
+ * line's arrived; a report sets its line's mark. Nothing else changes; the record and the
+ * roster never do.
  *   filled      the smaller of ordered and arrived
  *   extra       arrived minus filled
  *   let_go      ordered minus filled where the last mark is N, else 0
