@@ -1,4 +1,3 @@
-pub mod Searches
 pub mod Sounds
 pub mod Finds
 pub mod Fields

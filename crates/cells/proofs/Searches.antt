@@ -1,14 +1,14 @@
--- The searches and the tests over places, one place at a time, and what they say when they are done.
+-- The walks over places, one place at a time, and what they say when they are done.
 use mathlib.Core.Path.{_≡_, refl}
 use mathlib.Core.Bool.{Bool, true, false}
 use Prim.Native.Nat.{ℕ, zero, suc, _+_, _-_, _≤_, _<_}
 use native.Mathlib.Decide.{decLe}
 use native.Mathlib.Numerals.{add-one}
 use native.Mathlib.Omega.{arith}
 use Rattle.cells.specs.Bytes.{pick}
+use Rattle.cells.specs.Search.{firstFrom, allFrom, sumFrom}
+use Rattle.cells.specs.declared.search.Found.the-variants.{At, Nothing}
 use Rattle.cells.proofs.Bools.{split, and-left, and-right}
-use Rattle.book.specs.Lent.{firstFrom, allFrom}
-use Rattle.book.specs.declared.seek.Found.the-variants.{At, Nothing}
 
 -- of n places those from i on are left: the search ends here, goes on, or is at its end
 module _ (p : ℕ → Bool) (n i : ℕ) where
@@ -46,6 +46,20 @@ module _ (p : ℕ → Bool) (n i : ℕ) where
   pub all-end : n ≤ i → allFrom p (n - i) i ≡ true
   unfolding allFrom
   all-end h =
+      let e : n - i ≡ 0 = omega arith in
+      rw e refl
+
+-- and for a sum
+module _ (f : ℕ → ℕ) (n i : ℕ) where
+  pub sum-next : i < n → sumFrom f (n - i) i ≡ f i + sumFrom f (n - (i + 1)) (i + 1)
+  unfolding sumFrom
+  sum-next h =
+      let e : n - i ≡ suc (n - suc i) = omega arith in
+      rw (add-one, e) refl
+
+  pub sum-end : n ≤ i → sumFrom f (n - i) i ≡ 0
+  unfolding sumFrom
+  sum-end h =
       let e : n - i ≡ 0 = omega arith in
       rw e refl
 
