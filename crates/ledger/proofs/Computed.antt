@@ -3,11 +3,11 @@ use mathlib.Core.Path.{_≡_, refl}
 use mathlib.Core.Bool.{true, false}
 use mathlib.Core.List.{[], _∷_}
 use Rattle.cells.specs.Bytes.{same, bytes}
-use Rattle.ledger.specs.Lists.{first, change, given, found}
+use Rattle.ledger.specs.Lists.{keep, total, first, change, given, found}
 use Rattle.ledger.specs.Book.{J, N, schoolOf, ofSchool, ordered, filled, extra, isN, letGo, stillOpen}
-use Rattle.ledger.specs.Booking.{lineAt, slipAt, firstOf, mostArrived, isSame, tests, judge, arrive, tell, changeLine, enter}
+use Rattle.ledger.specs.Booking.{lineAt, slipAt, firstOf, mostArrived, isSame, openOf, tests, judge, arrive, tell, changeLine, enter}
 use Rattle.ledger.specs.History.{empty, settle, keyOf}
-use Rattle.ledger.specs.Cases.{ours, theirs, ordering, arriving, telling, desk, wide, narrow}
+use Rattle.ledger.specs.Cases.{key, ours, second, theirs, ordering, orderingUnder, arriving, telling, desk, wide, narrow}
 
 pub record Computed : Type 0 where
   -- document 01's eight records: deliveries after an N still fill
@@ -86,10 +86,40 @@ pub record Computed : Type 0 where
       ∷ (16 ∷ 0 ∷ 0 ∷ 0 ∷ 0 ∷ 0 ∷ [])
       ∷ (21 ∷ 0 ∷ 0 ∷ 0 ∷ 0 ∷ 0 ∷ [])
       ∷ []
+  -- 25: at the ceiling and one above it; 14 before it, and it before 15; what an N let go is not counted, a J that opens it again past the ceiling stands, and then nothing more is ordered; another school's copies are not counted
+  pub ceiling : desk (record { forLines = 2; forSlips = 1 }) empty
+      (orderingUnder 10 ours 11
+      ∷ orderingUnder 10 ours 10
+      ∷ orderingUnder 9 ours 1
+      ∷ orderingUnder 10 second 1
+      ∷ telling ours N
+      ∷ orderingUnder 10 second 10
+      ∷ telling ours J
+      ∷ orderingUnder 20 (key "43210     VD" "24000     VDA-19      9783442756841EN") 1
+      ∷ orderingUnder 10 theirs 10
+      ∷ [])
+      ≡ (25 ∷ 0 ∷ 0 ∷ 0 ∷ 0 ∷ 0 ∷ [])
+      ∷ (0 ∷ 10 ∷ 0 ∷ 10 ∷ 0 ∷ 0 ∷ [])
+      ∷ (14 ∷ 0 ∷ 0 ∷ 0 ∷ 0 ∷ 0 ∷ [])
+      ∷ (25 ∷ 0 ∷ 0 ∷ 0 ∷ 0 ∷ 0 ∷ [])
+      ∷ (0 ∷ 10 ∷ 0 ∷ 0 ∷ 10 ∷ 0 ∷ [])
+      ∷ (0 ∷ 10 ∷ 0 ∷ 10 ∷ 0 ∷ 0 ∷ [])
+      ∷ (0 ∷ 10 ∷ 0 ∷ 10 ∷ 0 ∷ 0 ∷ [])
+      ∷ (25 ∷ 0 ∷ 0 ∷ 0 ∷ 0 ∷ 0 ∷ [])
+      ∷ (15 ∷ 0 ∷ 0 ∷ 0 ∷ 0 ∷ 0 ∷ [])
+      ∷ []
+  -- copies that arrived are not open, and extra copies give nothing back
+  pub ceiling-filled : desk wide empty
+      (orderingUnder 10 ours 10 ∷ arriving ours "0001" 12 ∷ orderingUnder 10 second 11 ∷ orderingUnder 10 second 10 ∷ [])
+      ≡ (0 ∷ 10 ∷ 0 ∷ 10 ∷ 0 ∷ 0 ∷ [])
+      ∷ (0 ∷ 10 ∷ 10 ∷ 0 ∷ 0 ∷ 2 ∷ [])
+      ∷ (25 ∷ 0 ∷ 0 ∷ 0 ∷ 0 ∷ 0 ∷ [])
+      ∷ (0 ∷ 10 ∷ 0 ∷ 10 ∷ 0 ∷ 0 ∷ [])
+      ∷ []
   -- a line is of the school that heads its key, address and qualifier, and of no other
   pub own-school : ofSchool (bytes "43210     VD") ours ≡ true
   pub other-school : ofSchool (bytes "43210     VD") theirs ≡ false
 
 pub computed : Computed
-unfolding same schoolOf ofSchool first change given found ordered filled extra isN letGo stillOpen lineAt slipAt firstOf mostArrived isSame tests judge arrive tell changeLine enter settle keyOf desk
-computed = record { sample = refl; schools = refl; rooms = refl; limit = refl; two-rooms = refl; first-counts = refl; own-school = refl; other-school = refl }
+unfolding same schoolOf ofSchool openOf keep total first change given found ordered filled extra isN letGo stillOpen lineAt slipAt firstOf mostArrived isSame tests judge arrive tell changeLine enter settle keyOf desk
+computed = record { sample = refl; schools = refl; rooms = refl; limit = refl; two-rooms = refl; first-counts = refl; ceiling = refl; ceiling-filled = refl; own-school = refl; other-school = refl }

@@ -9,4 +9,5 @@ pub mod Sums
 pub mod Lines
 pub mod Slips
 pub mod Orders
+pub mod Ceilings
 pub mod Demand3

@@ -22,7 +22,7 @@ use Rattle.ledger.proofs.Histories.{Lasts, by-bookings}
 last-more : (earlier : Option Report) (rs : List Fit) (r : Fit) → lastReport earlier (rs ++ (r ∷ [])) ≡ lastReport (lastReport earlier rs) (r ∷ [])
 unfolding lastReport
 last-more earlier [] r = refl
-last-more earlier (order k o ∷ rs) r = last-more earlier rs r
+last-more earlier (order k o c ∷ rs) r = last-more earlier rs r
 last-more earlier (goods k g ∷ rs) r = last-more earlier rs r
 last-more earlier (report k m ∷ rs) r = last-more (some m) rs r
 
@@ -30,16 +30,16 @@ last-more earlier (report k m ∷ rs) r = last-more (some m) rs r
 line-next : (rooms : Rooms) (b : Book) (r : Fit) → judge rooms b r ≡ done → (rs : List Fit)
     → b .lines ≡ lineFrom (keyOf r) rs → enter b r .lines ≡ lineFrom (keyOf r) (rs ++ (r ∷ []))
 unfolding judge tests keyOf enter lineFrom changeLine change lineAt first found arrive tell lastReport total onSlip
-line-next rooms b (order k o) e [] d = cc
-line-next rooms b (order k o) e (order j x ∷ rs) d = cc (same-refl k, none-holds (tests rooms b (order k o)) e .0)
-line-next rooms b (order k o) e (goods j x ∷ rs) d = line-next rooms b (order k o) e rs d
-line-next rooms b (order k o) e (report j x ∷ rs) d = line-next rooms b (order k o) e rs d
+line-next rooms b (order k o c) e [] d = cc
+line-next rooms b (order k o c) e (order j x u ∷ rs) d = cc (same-refl k, none-holds (tests rooms b (order k o c)) e .0)
+line-next rooms b (order k o c) e (goods j x ∷ rs) d = line-next rooms b (order k o c) e rs d
+line-next rooms b (order k o c) e (report j x ∷ rs) d = line-next rooms b (order k o c) e rs d
 line-next rooms b (goods k g) e [] d = cc
-line-next rooms b (goods k g) e (order j x ∷ rs) d = cc (same-refl k, total-more onSlip rs (goods k g), last-more none rs (goods k g))
+line-next rooms b (goods k g) e (order j x u ∷ rs) d = cc (same-refl k, total-more onSlip rs (goods k g), last-more none rs (goods k g))
 line-next rooms b (goods k g) e (goods j x ∷ rs) d = line-next rooms b (goods k g) e rs d
 line-next rooms b (goods k g) e (report j x ∷ rs) d = line-next rooms b (goods k g) e rs d
 line-next rooms b (report k m) e [] d = cc
-line-next rooms b (report k m) e (order j x ∷ rs) d =
+line-next rooms b (report k m) e (order j x u ∷ rs) d =
     cc (same-refl k, total-more onSlip rs (report k m), add-zero (total onSlip rs), last-more none rs (report k m))
 line-next rooms b (report k m) e (goods j x ∷ rs) d = line-next rooms b (report k m) e rs d
 line-next rooms b (report k m) e (report j x ∷ rs) d = line-next rooms b (report k m) e rs d
@@ -68,7 +68,7 @@ every-line rooms rs k = by-bookings (Own k) rooms (own-lasts k rooms) rs empty r
 line-most : (k : Key) (rs : List Fit) → length (lineFrom k rs) ≤ 1
 unfolding lineFrom
 line-most k [] = omega arith
-line-most k (order j o ∷ rs) = omega arith
+line-most k (order j o c ∷ rs) = omega arith
 line-most k (goods j g ∷ rs) = line-most k rs
 line-most k (report j m ∷ rs) = line-most k rs
 

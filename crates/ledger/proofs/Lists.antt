@@ -79,6 +79,15 @@ module _ {A : Type 0} where
       let ih = keep-swap p q l in
       split (p a) (λ e. split (q a) (λ f. cc) (λ f. cc)) (λ e. split (q a) (λ f. cc) (λ f. cc))
 
+  -- a sum over what is kept is at most the whole sum, also among what another test keeps
+  total-most : (f : A → ℕ) (p : A → Bool) (l : List A) → total f (keep p l) ≤ total f l
+  unfolding total keep
+  total-most f p [] = omega arith
+  total-most f p (a ∷ l) = let ih = total-most f p l in split (p a) (λ e. rw e (omega arith)) (λ e. rw e (omega arith))
+
+  pub kept-most : (f : A → ℕ) (q p : A → Bool) (l : List A) → total f (keep q (keep p l)) ≤ total f (keep q l)
+  kept-most f q p l = rw (keep-swap q p l) (total-most f p (keep q l))
+
   -- a change of the first match moves a sum as it moves the entry's figure
   pub total-change : (g : A → ℕ) (q : A → Bool) (f : A → A) (n : ℕ) → ((a : A) → g (f a) ≡ g a + n) → (l : List A) → found (first q l) ≡ true
       → total g (change q f l) ≡ total g l + n

@@ -38,11 +38,11 @@ KeysAgree st = keysOf (st .book .lines) ≡ map keyOf (ordersIn (st .accepted))
 
 keys-last : (rooms : Rooms) → Lasts KeysAgree rooms
 unfolding enter changeLine keyOf isOrder
-keys-last rooms st (order k o) e h =
-    rw (keep-in isOrder (st .accepted) (order k o) refl)
+keys-last rooms st (order k o c) e h =
+    rw (keep-in isOrder (st .accepted) (order k o c) refl)
     (map-append (λ (l : Line). l .key) (st .book .lines) (newLine k o ∷ [])
     ∙ ap (λ (ks : List Key). ks ++ (k ∷ [])) h
-    ∙ sym (map-append keyOf (ordersIn (st .accepted)) (order k o ∷ [])))
+    ∙ sym (map-append keyOf (ordersIn (st .accepted)) (order k o c ∷ [])))
 keys-last rooms st (goods k g) e h =
     rw (keep-out isOrder (st .accepted) (goods k g) refl) (change-keys _ (arrive (g .copies)) (arrive-key (g .copies)) (st .book .lines) ∙ h)
 keys-last rooms st (report k m) e h =

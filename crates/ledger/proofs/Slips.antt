@@ -43,7 +43,7 @@ none-with s j ts i e = rw (same-true s j i) (keep-none _ ts (not-found (slipAt j
 -- a delivery is refused where its slip is booked
 once-lasts : (s : Key) (rooms : Rooms) → Lasts (Once s) rooms
 unfolding judge tests enter hasSlip
-once-lasts s rooms st (order k o) e h = record { as-many = rw (keep-out (hasSlip s) (st .accepted) (order k o) refl) (h .as-many); most = h .most }
+once-lasts s rooms st (order k o c) e h = record { as-many = rw (keep-out (hasSlip s) (st .accepted) (order k o c) refl) (h .as-many); most = h .most }
 once-lasts s rooms st (report k m) e h = record { as-many = rw (keep-out (hasSlip s) (st .accepted) (report k m) refl) (h .as-many); most = h .most }
 once-lasts s rooms st (goods k g) e h =
     let t : Slip = record { line = k; says = g } in
@@ -89,7 +89,7 @@ kept k f g ls t = found-change _ _ f (λ l. ap (same (t .line)) (g l)) ls
 -- no line goes away, and a delivery is refused where its line is not there
 named-last : (rooms : Rooms) → Lasts Named rooms
 unfolding judge tests enter lineAt
-named-last rooms st (order k o) e h =
+named-last rooms st (order k o c) e h =
     each-so (HasLine (st .book .lines)) _ (λ t. found-more _ (st .book .lines) (newLine k o)) (st .book .slips) h
 named-last rooms st (goods k g) e h =
     let c = not-false _ (none-holds (tests rooms (st .book) (goods k g)) e .1 .1 .0) in

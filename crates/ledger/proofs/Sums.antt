@@ -34,9 +34,9 @@ pub record Sums (st : State) : Type 0 where
 -- an order adds a line, a delivery adds to a line and is one more slip, a report adds nothing
 sums-last : (rooms : Rooms) → Lasts Sums rooms
 unfolding judge tests enter ordered onOrder onSlip arrive tell changeLine lineAt
-sums-last rooms st (order k o) e h =
-    let x = total-more onOrder (st .accepted) (order k o) in
-    let y = total-more onSlip (st .accepted) (order k o) in
+sums-last rooms st (order k o c) e h =
+    let x = total-more onOrder (st .accepted) (order k o c) in
+    let y = total-more onSlip (st .accepted) (order k o c) in
     let z = total-more (λ (l : Line). l .arrived) (st .book .lines) (newLine k o) in
     record {
       orders = omega (arith, h .orders, total-more ordered (st .book .lines) (newLine k o));

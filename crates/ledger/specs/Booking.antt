@@ -6,12 +6,12 @@ use mathlib.Core.List.{List, [], _∷_, _++_}
 use lib.Dec.{leb, ltb, eqb}
 use lib.ListN.{length}
 use Rattle.cells.specs.Bytes.{pick, same}
-use Rattle.ledger.specs.Lists.{first, change, given, found}
-use Rattle.ledger.specs.Book.{Key, Order, Goods, Report, Line, Slip, Book, Rooms}
+use Rattle.ledger.specs.Lists.{keep, total, first, change, given, found}
+use Rattle.ledger.specs.Book.{Key, schoolOf, ofSchool, Order, Goods, Report, Line, Slip, Book, Rooms, stillOpen}
 
--- a record fit to book: the key of its line, and what it says
+-- a record fit to book: the key of its line, and what it says; for an order also the ceiling that its school has on the roster that the order met
 pub data Fit : Type 0 where
-  order : Key → Order → Fit
+  order : Key → Order → ℕ → Fit
   goods : Key → Goods → Fit
   report : Key → Report → Fit
 
@@ -53,10 +53,15 @@ mostArrived = 9999999
 unfoldable pub isSame : Key → Goods → Slip → Bool
 isSame k g t = same k (t .line) && eqb (g .copies) (t .says .copies)
 
+-- the open copies of a school: those of all its lines (RULES 6.6)
+unfoldable pub openOf : Key → List Line → ℕ
+openOf school ls = total stillOpen (keep (λ l. ofSchool school (l .key)) ls)
+
 -- the refusals of each kind, in their order
 unfoldable pub tests : Rooms → Book → Fit → List Test
-tests rooms b (order k o) =
+tests rooms b (order k o ceiling) =
     (found (lineAt k (b .lines)) refuses 14)
+    ∷ (ltb ceiling (openOf (schoolOf k) (b .lines) + o .copies) refuses 25)
     ∷ (leb (rooms .forLines) (length (b .lines)) refuses 15)
     ∷ []
 tests rooms b (goods k g) =
@@ -90,7 +95,7 @@ changeLine k f ls = change (λ l. same k (l .key)) f ls
 
 -- the book after an accepted record
 unfoldable pub enter : Book → Fit → Book
-enter b (order k o) = record { lines = b .lines ++ (newLine k o ∷ []); slips = b .slips }
+enter b (order k o ceiling) = record { lines = b .lines ++ (newLine k o ∷ []); slips = b .slips }
 enter b (goods k g) =
     record { lines = changeLine k (arrive (g .copies)) (b .lines); slips = b .slips ++ (record { line = k; says = g } ∷ []) }
 enter b (report k m) = record { lines = changeLine k (tell m) (b .lines); slips = b .slips }

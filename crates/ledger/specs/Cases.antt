@@ -15,6 +15,10 @@ key school rest = bytes school ++ bytes rest
 abbrev pub ours : Key
 ours = key "43210     VD" "24000     VDA-17      9783442756841EN"
 
+-- the school's line with another reference
+abbrev pub second : Key
+second = key "43210     VD" "24000     VDA-18      9783442756841EN"
+
 -- another school with the same reference
 abbrev pub theirs : Key
 theirs = key "43211     VD" "24000     VDA-17      9783442756841EN"
@@ -22,8 +26,12 @@ theirs = key "43211     VD" "24000     VDA-17      9783442756841EN"
 abbrev pub slip : String → Key
 slip position = bytes "24000     VD43210     VD2024022670012345  " ++ bytes position
 
+-- an order under a ceiling, and one under a ceiling that is never in its way
+abbrev pub orderingUnder : ℕ → Key → ℕ → Fit
+orderingUnder ceiling k n = order k (record { copies = n }) ceiling
+
 abbrev pub ordering : Key → ℕ → Fit
-ordering k n = order k (record { copies = n })
+ordering k n = orderingUnder 1000000 k n
 
 abbrev pub arriving : Key → String → ℕ → Fit
 arriving k position n = goods k (record { slip = slip position; copies = n })

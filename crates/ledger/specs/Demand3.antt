@@ -1,13 +1,13 @@
 -- Demand 3, the statement: what holds of a book after any sequence of bookings from empty.
-use Prim.Native.Nat.{_+_, _≤_}
+use Prim.Native.Nat.{ℕ, _+_, _≤_}
 use mathlib.Core.Path.{_≡_}
 use mathlib.Core.Bool.{false}
 use mathlib.Core.List.{List, [], _∷_}
 use lib.ListN.{length}
 use Rattle.cells.specs.Bytes.{same}
 use Rattle.ledger.specs.Lists.{keep, total}
-use Rattle.ledger.specs.Book.{Key, Rooms, ofSchool, filled, letGo, stillOpen, extra}
-use Rattle.ledger.specs.Booking.{Test}
+use Rattle.ledger.specs.Book.{Key, Order, Book, Rooms, schoolOf, ofSchool, filled, letGo, stillOpen, extra}
+use Rattle.ledger.specs.Booking.{Test, order, done, openOf, judge, enter}
 use Rattle.ledger.specs.History.{State, empty, bookings, linesOf, part, recordsOf, onOrder, onSlip, lineFrom, hasSlip}
 
 pub record Promise3 (rooms : Rooms) (st : State) : Type 0 where
@@ -26,6 +26,12 @@ pub record Promise3 (rooms : Rooms) (st : State) : Type 0 where
   pub school-alone : (school : Key)
       → bookings rooms empty (recordsOf (ofSchool school) (st .accepted))
       ≡ record { book = part (ofSchool school) (st .book); accepted = recordsOf (ofSchool school) (st .accepted) }
+
+-- what 25 promises: after an accepted order its school's open copies are at most the ceiling
+abbrev pub CeilingKept : Type 0
+CeilingKept =
+    (rooms : Rooms) (b : Book) (k : Key) (o : Order) (ceiling : ℕ) → judge rooms b (order k o ceiling) ≡ done
+    → openOf (schoolOf k) (enter b (order k o ceiling) .lines) ≤ ceiling
 
 -- none of the tests holds
 abbrev pub NoneHolds : List Test → Type 0

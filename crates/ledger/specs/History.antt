@@ -30,7 +30,7 @@ bookings rooms st (r ∷ rs) = bookings rooms (booking rooms st r) rs
 
 -- the part of a book, and of a sequence of records, that some keys have
 unfoldable pub keyOf : Fit → Key
-keyOf (order k o) = k
+keyOf (order k o c) = k
 keyOf (goods k g) = k
 keyOf (report k m) = k
 
@@ -45,37 +45,37 @@ recordsOf p rs = keep (λ r. p (keyOf r)) rs
 
 -- a record is an order
 unfoldable pub isOrder : Fit → Bool
-isOrder (order k o) = true
+isOrder (order k o c) = true
 isOrder (goods k g) = false
 isOrder (report k m) = false
 
 -- copies on an order, and on a slip
 unfoldable pub onOrder : Fit → ℕ
-onOrder (order k o) = o .copies
+onOrder (order k o c) = o .copies
 onOrder (goods k g) = 0
 onOrder (report k m) = 0
 
 unfoldable pub onSlip : Fit → ℕ
-onSlip (order k o) = 0
+onSlip (order k o c) = 0
 onSlip (goods k g) = g .copies
 onSlip (report k m) = 0
 
 -- the last report among records, or an earlier one where there is none
 unfoldable pub lastReport : Option Report → List Fit → Option Report
 lastReport earlier [] = earlier
-lastReport earlier (order k o ∷ rs) = lastReport earlier rs
+lastReport earlier (order k o c ∷ rs) = lastReport earlier rs
 lastReport earlier (goods k g ∷ rs) = lastReport earlier rs
 lastReport earlier (report k m ∷ rs) = lastReport (some m) rs
 
 -- a key's lines from the key's own accepted records: an order begins one; then the sum of its slips and its last report
 unfoldable pub lineFrom : Key → List Fit → List Line
 lineFrom k [] = []
-lineFrom k (order j o ∷ rs) = record { key = k; asked = o; arrived = total onSlip rs; last = lastReport none rs } ∷ []
+lineFrom k (order j o c ∷ rs) = record { key = k; asked = o; arrived = total onSlip rs; last = lastReport none rs } ∷ []
 lineFrom k (goods j g ∷ rs) = lineFrom k rs
 lineFrom k (report j m ∷ rs) = lineFrom k rs
 
 -- a delivery with this slip key
 unfoldable pub hasSlip : Key → Fit → Bool
-hasSlip s (order k o) = false
+hasSlip s (order k o c) = false
 hasSlip s (goods k g) = same s (g .slip)
 hasSlip s (report k m) = false

@@ -57,7 +57,7 @@ fn find_account(roster: &[u8], account: &[u8]) -> Found
 }
 
 // What the roster says of an account.
-pub fn standing(roster: &[u8], account: &[u8]) -> Standing
+pub fn standing_on(roster: &[u8], account: &[u8]) -> Standing
     ensures { λ r. ⌜ r ≡ standing (now (roster .entry)) (now (account .entry)) ⌝ }
 {
     match find_account(roster, account) {
