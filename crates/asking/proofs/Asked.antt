@@ -8,7 +8,7 @@ use Rattle.entry.specs.Stored.{lineAt}
 use Rattle.book.specs.Lent.{Lent, sound, findLine}
 use Rattle.book.specs.Booking.{refusedAs, doneAs}
 use Rattle.book.specs.Asked.{keyWidths, areWide, figuresAt, figuresOfKey, lineAsked}
-use Rattle.book.specs.declared.seek.Found.the-variants.{At, Nothing}
+use Rattle.cells.specs.declared.search.Found.the-variants.{At, Nothing}
 use Rattle.book.specs.declared.answer.Refused.the-variants.{Unsound, NoLine}
 
 -- the figures of a line that a key finds, or of none

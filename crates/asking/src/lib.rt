@@ -9,7 +9,7 @@ use book::answer::Booked;
 use book::answer::Refused;
 use book::answer::done;
 use book::answer::refuse;
-use book::seek::Found;
+use cells::search::Found;
 use book::seek::find_line;
 use book::seek::is_sound;
 use cells::paste_at;

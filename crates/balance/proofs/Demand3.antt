@@ -7,6 +7,7 @@ use Prim.Native.Nat.{ℕ, _+_}
 use native.Mathlib.Omega.{arith}
 use lib.ListN.{length}
 use Rattle.cells.specs.Bytes.{pick, same}
+use Rattle.cells.specs.Search.{allFrom}
 use Rattle.cells.proofs.Bools.{split}
 use Rattle.ledger.specs.Lists.{keep, total, given}
 use Rattle.ledger.specs.Book.{Rooms}
@@ -17,7 +18,7 @@ use Rattle.ledger.proofs.Members.{keep-within}
 use Rattle.ledger.proofs.Histories.{alone}
 use Rattle.ledger.proofs.Gives.{Gives, first-accepted}
 use Rattle.ledger.proofs.Slips.{slip-once}
-use Rattle.book.specs.Lent.{usedLines, usedSlips, lineRoom, slipRoom, allFrom, sound, roomsSound}
+use Rattle.book.specs.Lent.{usedLines, usedSlips, lineRoom, slipRoom, sound, roomsSound}
 use Rattle.book.specs.Booking.{refusedAs, book}
 use Rattle.book.specs.Asked.{lineAsked}
 use Rattle.book.specs.declared.answer.Refused.the-variants.{Unsound}

@@ -15,9 +15,9 @@ use Rattle.entry.specs.Stored.{mostArrived, lineAt, keyAt, keyIs, slipKeyAt, sl
 use Rattle.roundtrip.proofs.ReadExactly.{fits-record, record-fits}
 use Rattle.book.specs.Lent.{Lent, usedLines, usedSlips, lineRoom, slipRoom, findLine, findSlip}
 use Rattle.book.specs.Booking.{lineKey, slipKey, copiesIn, orderJudged, arrivalJudged, goodsJudged, deliveryJudged, reportJudged, bookJudged, book}
-use Rattle.book.specs.declared.seek.Found.the-variants.{At, Nothing}
+use Rattle.cells.specs.declared.search.Found.the-variants.{At, Nothing}
 use Rattle.book.specs.declared.answer.Verdict.the-variants.{Fits}
-use Rattle.book.proofs.Searches.{found-at, none-at}
+use Rattle.cells.proofs.Searches.{found-at, none-at}
 use Rattle.balance.specs.Accepted.{NoLineWith, NoSlipWith, LineWith, Passes, Acceptable, AcceptedExactly}
 use Rattle.balance.proofs.Listings.{first-is, none-is, first-so}
 use Rattle.balance.proofs.Accepted.{Refuses, Accepts, refused-or-accepted}

@@ -25,8 +25,8 @@ use Rattle.book.specs.Lent.{Lent, findLine, findSlip}
 use Rattle.book.specs.Booking.{lineKey, slipKey, copiesIn, markIn, bookJudged, newLine, lineAfter, doneAs, book}
 use Rattle.book.specs.Asked.{figuresAt, figuresOfKey, lineAsked}
 use Rattle.book.specs.declared.answer.Verdict.the-variants.{Fits}
-use Rattle.book.specs.declared.seek.Found.{Found}
-use Rattle.book.specs.declared.seek.Found.the-variants.{At, Nothing}
+use Rattle.cells.specs.declared.search.Found.{Found}
+use Rattle.cells.specs.declared.search.Found.the-variants.{At, Nothing}
 use Rattle.balance.specs.Told.{reportOf, lineTold, told, holdOf, fitAs, fitKind, fitOf}
 use Rattle.balance.specs.Demand3.{keyFieldsIn}
 use Rattle.balance.specs.Joined.{figuresTold, saysOf, AskedTells, BookedTells}

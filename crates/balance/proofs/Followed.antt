@@ -26,8 +26,8 @@ use Rattle.ledger.specs.Booking.{Fit, order as ordering, goods as arriving, rep
 use Rattle.book.specs.Lent.{Lent, usedLines, usedSlips, lineRoom, slipRoom, findLine, findSlip}
 use Rattle.book.specs.Booking.{lineKey, slipKey, copiesIn, markIn, nothingToBook, noCopies, noReference, orderJudged, slipJudged, arrivalJudged, goodsJudged, deliveryJudged, reportJudged, bookJudged, fitJudged, newLine, lineAfter, lentAfter, book}
 use Rattle.balance.specs.Told.{reportOf, lineTold, told, roomsOf, holdOf, fitAs, fitKind, fitOf}
-use Rattle.book.specs.declared.seek.Found.{Found}
-use Rattle.book.specs.declared.seek.Found.the-variants.{At, Nothing}
+use Rattle.cells.specs.declared.search.Found.{Found}
+use Rattle.cells.specs.declared.search.Found.the-variants.{At, Nothing}
 use Rattle.book.specs.declared.answer.Refused.{Refused}
 use Rattle.book.specs.declared.answer.Refused.the-variants.{SlipBooked, SlipDiffers}
 use Rattle.book.specs.declared.answer.Verdict.{Verdict}

@@ -15,8 +15,8 @@ use Rattle.ledger.specs.Book.{Key, Order, Goods, Report}
 use Rattle.ledger.specs.Booking.{order, goods, report, done, firstOf, tests, judge, mostArrived as limit, lineAt as lineWith, slipAt as slipWith}
 use Rattle.book.specs.Lent.{Lent, usedLines, usedSlips, lineRoom, slipRoom, findLine, findSlip}
 use Rattle.balance.specs.Told.{lineTold, slipTold, told, roomsOf}
-use Rattle.book.specs.declared.seek.Found.the-variants.{At, Nothing}
-use Rattle.book.proofs.Searches.{found-at}
+use Rattle.cells.specs.declared.search.Found.the-variants.{At, Nothing}
+use Rattle.cells.proofs.Searches.{found-at}
 use Rattle.balance.proofs.Listings.{listed-length, none-listed, first-listed}
 
 -- lists are compared either way round

@@ -10,12 +10,12 @@ use native.Mathlib.Nat.{add-zero}
 use native.Mathlib.Omega.{arith}
 use lib.ListN.{length}
 use Rattle.cells.specs.Bytes.{pick}
+use Rattle.cells.specs.Search.{firstFrom, allFrom}
 use Rattle.cells.proofs.Bools.{split}
 use Rattle.ledger.specs.Lists.{first, change}
-use Rattle.book.specs.Lent.{firstFrom, allFrom}
 use Rattle.balance.specs.Told.{listed}
-use Rattle.book.specs.declared.seek.Found.the-variants.{At, Nothing}
-use Rattle.book.proofs.Searches.{found-at}
+use Rattle.cells.specs.declared.search.Found.the-variants.{At, Nothing}
+use Rattle.cells.proofs.Searches.{found-at}
 
 -- a test that holds at each of n places from i on
 pub each-place : (p : ℕ → Bool) (n i : ℕ) → ((x : ℕ) → i ≤ x → x < i + n → p x ≡ true) → allFrom p n i ≡ true

@@ -21,8 +21,8 @@ use Rattle.ledger.specs.Book.{Key, Order as Ordering, Goods as Arrival, Report 
 use Rattle.ledger.specs.Booking.{order, goods, report, isSame, firstOf, tests, judge, mostArrived as limit, numberOf}
 use Rattle.book.specs.Lent.{Lent, usedLines, usedSlips, lineRoom, slipRoom, sound, findLine, findSlip}
 use Rattle.book.specs.Booking.{refusedNumber, lineKey, slipKey, copiesIn, markIn, nothingToBook, noCopies, noReference, orderJudged, slipJudged, arrivalJudged, goodsJudged, deliveryJudged, reportJudged, bookJudged, fitJudged, refusedAs, doneAs, enteredAs, settled, bookAs, bookKind, bookRead, book}
-use Rattle.book.specs.declared.seek.Found.{Found}
-use Rattle.book.specs.declared.seek.Found.the-variants.{At, Nothing}
+use Rattle.cells.specs.declared.search.Found.{Found}
+use Rattle.cells.specs.declared.search.Found.the-variants.{At, Nothing}
 use Rattle.book.specs.declared.answer.Verdict.{Verdict}
 use Rattle.book.specs.declared.answer.Verdict.the-variants.{Refuse, Fits}
 use Rattle.balance.specs.Told.{slipTold, lineTold, told, roomsOf, holdOf, fitAs, fitKind, fitOf}

@@ -6,9 +6,10 @@ use native.Mathlib.Omega.{arith}
 use lib.Dec.{leb}
 use lib.ListN.{length}
 use borrow.Author.Tests.{le-leb, lt-ltb}
+use Rattle.cells.specs.Search.{allFrom}
 use Rattle.cells.proofs.Bools.{and-left, and-right}
 use Rattle.entry.specs.Stored.{lineWidth, slipWidth, lineSound, slipLineAt, slipSound}
-use Rattle.book.specs.Lent.{Lent, usedLines, usedSlips, mostLines, mostSlips, lineRoom, slipRoom, roomSound, allFrom, sound, roomsSound}
+use Rattle.book.specs.Lent.{Lent, usedLines, usedSlips, mostLines, mostSlips, lineRoom, slipRoom, roomSound, sound, roomsSound}
 use Rattle.book.proofs.Sounds.{Sound}
 use Rattle.balance.proofs.Listings.{each-place}
 

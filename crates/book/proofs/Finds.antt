@@ -5,12 +5,13 @@ use mathlib.Core.List.{List}
 use Prim.Native.Nat.{ℕ, _+_, _*_, _≤_, _<_}
 use native.Mathlib.Omega.{arith}
 use lib.ListN.{length, getD}
+use Rattle.cells.specs.Search.{firstFrom}
 use Rattle.entry.specs.Stored.{lineWidth, slipWidth, mostArrived, lineAt, keyIs, slipIs, slipLineAt}
 use Rattle.entry.proofs.Sound.{sound-bounded}
-use Rattle.book.specs.Lent.{Lent, lent, usedLines, usedSlips, firstFrom, sound, findLine, findSlip}
-use Rattle.book.specs.declared.seek.Found.{Found}
-use Rattle.book.specs.declared.seek.Found.the-variants.{At}
-use Rattle.book.proofs.Searches.{found-at}
+use Rattle.book.specs.Lent.{Lent, lent, usedLines, usedSlips, sound, findLine, findSlip}
+use Rattle.cells.specs.declared.search.Found.{Found}
+use Rattle.cells.specs.declared.search.Found.the-variants.{At}
+use Rattle.cells.proofs.Searches.{found-at}
 use Rattle.book.proofs.Sounds.{sound-so}
 
 -- a search of the code over the used lines, or slips, is the search of the book

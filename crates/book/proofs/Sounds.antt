@@ -7,10 +7,11 @@ use borrow.Author.Tests.{leb-true, ltb-true}
 use lib.Dec.{eqb, leb}
 use lib.ListN.{length}
 use Rattle.cells.specs.Bytes.{within}
+use Rattle.cells.specs.Search.{allFrom}
 use Rattle.cells.proofs.Bools.{and-left, and-right}
 use Rattle.entry.specs.Stored.{lineWidth, slipWidth, lineSound, slipSound, slipLineAt}
-use Rattle.book.specs.Lent.{Lent, usedLines, usedSlips, mostLines, mostSlips, lineRoom, slipRoom, roomSound, allFrom, sound, roomsSound}
-use Rattle.book.proofs.Searches.{all-at}
+use Rattle.book.specs.Lent.{Lent, usedLines, usedSlips, mostLines, mostSlips, lineRoom, slipRoom, roomSound, sound, roomsSound}
+use Rattle.cells.proofs.Searches.{all-at}
 
 -- the used counts are within the rooms, the rooms within their limits, each used line is sound and each used slip names a used line
 pub record Sound (b : Lent) : Type 0 where

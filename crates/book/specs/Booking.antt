@@ -3,8 +3,13 @@ use Prim.Native.Nat.{ℕ, _+_}
 use mathlib.Core.Bool.{Bool, true, false, _&&_}
 use mathlib.Core.List.{List, [], _∷_, map}
 use lib.Dec.{eqb, leb, ltb}
-use lib.ListN.{set}
+use lib.ListN.{take, set}
 use Rattle.cells.specs.Bytes.{pick, bytes, same, joined}
+use Rattle.cells.specs.declared.search.Found.{Found}
+use Rattle.cells.specs.declared.search.Found.the-variants.{At, Nothing}
+use Rattle.roster.specs.Roster.{rosterSound, standing}
+use Rattle.roster.specs.declared.Standing.{Standing}
+use Rattle.roster.specs.declared.Standing.the-variants.{On, Off}
 use Rattle.rules.specs.Class.{allOf}
 use Rattle.rules.specs.Values.{copies, copiesOf}
 use Rattle.rules.specs.declared.amount.Copies.{Copies}
@@ -25,11 +30,9 @@ use Rattle.entry.specs.declared.line.Mark.{Mark}
 use Rattle.entry.specs.declared.line.Mark.the-variants.{Unmarked, Held, Dropped}
 use Rattle.entry.specs.declared.line.Line.{Line}
 use Rattle.entry.specs.declared.line.Figures.{Figures}
-use Rattle.book.specs.Lent.{Lent, usedLines, usedSlips, lineRoom, slipRoom, sound, findLine, findSlip}
-use Rattle.book.specs.declared.seek.Found.{Found}
-use Rattle.book.specs.declared.seek.Found.the-variants.{At, Nothing}
+use Rattle.book.specs.Lent.{Lent, usedLines, usedSlips, lineRoom, slipRoom, sound, findLine, findSlip, openCopies}
 use Rattle.book.specs.declared.answer.Refused.{Refused}
-use Rattle.book.specs.declared.answer.Refused.the-variants.{Unsound, Unread, NothingToBook, NoCopies, NoReference, LineExists, LinesUsed, NoLine, SlipBooked, SlipDiffers, SlipsUsed, TooManyArrived}
+use Rattle.book.specs.declared.answer.Refused.the-variants.{Unsound, Unread, NothingToBook, NoCopies, NoReference, LineExists, LinesUsed, NoLine, SlipBooked, SlipDiffers, SlipsUsed, TooManyArrived, NotOnRoster, CeilingPassed}
 use Rattle.book.specs.declared.answer.Verdict.{Verdict}
 use Rattle.book.specs.declared.answer.Verdict.the-variants.{Refuse, Fits}
 use Rattle.book.specs.declared.answer.Booked.{Booked}
@@ -48,6 +51,8 @@ refusedNumber SlipBooked = 17
 refusedNumber SlipDiffers = 18
 refusedNumber SlipsUsed = 19
 refusedNumber TooManyArrived = 21
+refusedNumber NotOnRoster = 24
+refusedNumber CeilingPassed = 25
 
 -- only what reading refuses has a place
 unfoldable pub refusedPlace : Refused → ℕ
@@ -63,6 +68,8 @@ refusedPlace SlipBooked = 0
 refusedPlace SlipDiffers = 0
 refusedPlace SlipsUsed = 0
 refusedPlace TooManyArrived = 0
+refusedPlace NotOnRoster = 0
+refusedPlace CeilingPassed = 0
 
 -- the fields of a record with these indexes
 abbrev pub fieldsIn : Kind → List ℕ → List ℕ → List (List ℕ)
@@ -77,6 +84,13 @@ keyFields Report = 3 ∷ 4 ∷ 1 ∷ 2 ∷ 6 ∷ 7 ∷ 8 ∷ []
 
 unfoldable pub lineKey : Kind → List ℕ → List ℕ
 lineKey k s = joined (fieldsIn k (keyFields k) s)
+
+-- a school is an address and its qualifier, the first two fields of a key
+abbrev pub schoolFields : ℕ
+schoolFields = 2
+
+unfoldable pub schoolIn : Kind → List ℕ → List ℕ
+schoolIn k s = joined (fieldsIn k (take schoolFields (keyFields k)) s)
 
 -- the fields of a goods record that make its slip's key (RULES 6.1)
 abbrev pub slipFields : List ℕ
@@ -117,10 +131,15 @@ noReference Report s = allOf Blank (fieldBytes Report 6 s)
 unfoldable pub markIn : List ℕ → Mark
 markIn s = pick (same (fieldBytes Report 10 s) (bytes "J")) Held Dropped
 
--- 14, 15
-unfoldable pub orderJudged : Lent → Found → Verdict
-orderJudged b (At i) = Refuse LineExists
-orderJudged b Nothing = pick (ltb (usedLines b) (lineRoom b)) (Fits (usedLines b)) (Refuse LinesUsed)
+-- 25, 15: so many copies of the school would be open
+unfoldable pub newLineJudged : Lent → ℕ → ℕ → Verdict
+newLineJudged b copies ceiling =
+    pick (leb copies ceiling) (pick (ltb (usedLines b) (lineRoom b)) (Fits (usedLines b)) (Refuse LinesUsed)) (Refuse CeilingPassed)
+
+-- 14, then 25 and 15, of so many copies for a school with a ceiling
+unfoldable pub orderJudged : Lent → List ℕ → Copies → ℕ → Found → Verdict
+orderJudged b school n ceiling (At i) = Refuse LineExists
+orderJudged b school n ceiling Nothing = newLineJudged b (openCopies b school + n .0) ceiling
 
 -- 17 or 18: the slip key is booked at j, with the same line key and quantity or with another
 unfoldable pub slipJudged : Lent → List ℕ → Copies → ℕ → Verdict
@@ -149,20 +168,25 @@ unfoldable pub reportJudged : Found → Verdict
 reportJudged Nothing = Refuse NoLine
 reportJudged (At i) = Fits i
 
--- what the book says of a record that is fit to book
-unfoldable pub bookJudged : Kind → List ℕ → Lent → Verdict
-bookJudged Order s b = orderJudged b (findLine b (lineKey Order s))
-bookJudged Goods s b = deliveryJudged b (lineKey Goods s) (copiesIn Goods s) (findSlip b (slipKey s))
-bookJudged Closing s b = Refuse NothingToBook
-bookJudged Report s b = reportJudged (findLine b (lineKey Report s))
+-- what the book says of a record that is fit to book, whose school has a ceiling; only an order is held to it
+unfoldable pub bookJudged : Kind → List ℕ → ℕ → Lent → Verdict
+bookJudged Order s ceiling b = orderJudged b (schoolIn Order s) (copiesIn Order s) ceiling (findLine b (lineKey Order s))
+bookJudged Goods s ceiling b = deliveryJudged b (lineKey Goods s) (copiesIn Goods s) (findSlip b (slipKey s))
+bookJudged Closing s ceiling b = Refuse NothingToBook
+bookJudged Report s ceiling b = reportJudged (findLine b (lineKey Report s))
 
--- 13, 11, 12, then the book, of a record of a kind that is read
-unfoldable pub fitJudged : Kind → List ℕ → Lent → Verdict
-fitJudged k s b =
+-- 24, then the book
+unfoldable pub onRoster : Kind → List ℕ → Lent → Standing → Verdict
+onRoster k s b Off = Refuse NotOnRoster
+onRoster k s b (On ceiling) = bookJudged k s ceiling b
+
+-- 13, 11, 12, 24, then the book, of a record of a kind that is read
+unfoldable pub fitJudged : Kind → List ℕ → List ℕ → Lent → Verdict
+fitJudged k s roster b =
     pick (nothingToBook k s) (Refuse NothingToBook)
     (pick (noCopies k s) (Refuse NoCopies)
     (pick (noReference k s) (Refuse NoReference)
-    (bookJudged k s b)))
+    (onRoster k s b (standing roster (schoolIn k s)))))
 
 -- a new line: nothing has arrived, no mark
 unfoldable pub newLine : Copies → Line
@@ -217,18 +241,18 @@ settled k s b (Refuse r) = outcome (refusedAs r) b
 settled k s b (Fits i) = enteredAs k s b i
 
 -- a record of a kind that is read, booked into a sound book
-unfoldable pub bookAs : Kind → List ℕ → Lent → Outcome
-bookAs k s b = settled k s b (fitJudged k s b)
+unfoldable pub bookAs : Kind → List ℕ → List ℕ → Lent → Outcome
+bookAs k s roster b = settled k s b (fitJudged k s roster b)
 
-unfoldable pub bookKind : Kinded → List ℕ → Lent → Outcome
-bookKind Unknown s b = outcome (refusedAs NothingToBook) b
-bookKind (Known k) s b = bookAs k s b
+unfoldable pub bookKind : Kinded → List ℕ → List ℕ → Lent → Outcome
+bookKind Unknown s roster b = outcome (refusedAs NothingToBook) b
+bookKind (Known k) s roster b = bookAs k s roster b
 
 -- 1 to 10 first
-unfoldable pub bookRead : Reading → List ℕ → Lent → Outcome
-bookRead (ReadRefused r) s b = outcome (refusedAs (Unread r)) b
-bookRead (ReadFits n) s b = bookKind (kindOf s) s b
+unfoldable pub bookRead : Reading → List ℕ → List ℕ → Lent → Outcome
+bookRead (ReadRefused r) s roster b = outcome (refusedAs (Unread r)) b
+bookRead (ReadFits n) s roster b = bookKind (kindOf s) s roster b
 
--- a record booked into a lent book: 20 before all
-unfoldable pub book : List ℕ → Lent → Outcome
-book s b = pick (sound b) (bookRead (judged s) s b) (outcome (refusedAs Unsound) b)
+-- a record that meets a roster, booked into a lent book: 20 before all
+unfoldable pub book : List ℕ → List ℕ → Lent → Outcome
+book s roster b = pick (rosterSound roster && sound b) (bookRead (judged s) s roster b) (outcome (refusedAs Unsound) b)

@@ -1,9 +1,10 @@
--- Cases of booking on bytes: the desk's eight records, the whole table of cases marked P, unsound books, and calls by key.
+-- Cases of booking on bytes: the desk's eight records, the whole table of cases marked P, unsound books, and calls by key. All but the unsound books meet the desk's roster.
 use Prim.Native.Nat.{ℕ, _*_}
 use mathlib.Core.List.{List, [], _∷_, _++_}
 use lib.ListN.{replicate, take, set}
 use lib.Seq.{slice, sets}
 use Rattle.cells.specs.Bytes.{bytes}
+use Rattle.roster.specs.Cases.{entry}
 use Rattle.record.specs.Read.{check}
 use Rattle.record.specs.Samples.{X, Y, Z, put, Call, reads, books}
 use Rattle.record.specs.Edges.{C, fullTable}
@@ -18,6 +19,10 @@ use Rattle.book.specs.declared.answer.Booked.{Booked}
 abbrev pub roomy : ℕ → ℕ → Lent
 roomy lines slips = record { lines = replicate (lines * lineWidth) 7; slips = replicate (slips * slipWidth) 7; used = 0 ∷ 0 ∷ [] }
 
+-- a roster of three schools, X's own among them, with room for all that the cases order
+abbrev pub schools : List ℕ
+schools = entry "43211     VD" 10 ++ (entry "43210     VD" 10 ++ entry "43212     VD" 10)
+
 -- what the desk prints of a record: answer, ordered, filled, open, let go, extra
 abbrev pub printed : Booked → List ℕ
 printed b =
@@ -25,7 +30,7 @@ printed b =
 
 unfoldable pub desk : Lent → List (List ℕ) → List (List ℕ)
 desk b [] = []
-desk b (s ∷ ss) = printed (book s b .said) ∷ desk (book s b .lent) ss
+desk b (s ∷ ss) = printed (book s schools b .said) ∷ desk (book s schools b .lent) ss
 
 -- the desk's eight records (RULES 12)
 unfoldable pub sample : List (List ℕ)
@@ -94,11 +99,11 @@ othersSay =
 -- what the calls say of a record of the table of cases marked P
 abbrev pub says : Call → List ℕ → Checked
 says reads s = check s fullTable .said
-says books s = record { answer = book s (roomy 1 1) .said .answer; place = book s (roomy 1 1) .said .place; fields = 0 }
+says books s = record { answer = book s schools (roomy 1 1) .said .answer; place = book s schools (roomy 1 1) .said .place; fields = 0 }
 
 -- the book after X and Y, and books with one thing broken
 abbrev pub two : Lent
-two = book Y (book X (roomy 2 2) .lent) .lent
+two = book Y schools (book X schools (roomy 2 2) .lent) .lent
 
 abbrev withLines : (List ℕ → List ℕ) → Lent
 withLines f = record { lines = f (two .lines); slips = two .slips; used = two .used }
@@ -135,7 +140,7 @@ unsound =
 
 unfoldable pub answersTo : List ℕ → List Lent → List ℕ
 answersTo s [] = []
-answersTo s (b ∷ bs) = book s b .said .answer ∷ answersTo s bs
+answersTo s (b ∷ bs) = book s schools b .said .answer ∷ answersTo s bs
 
 unfoldable pub unsoundSays : List ℕ
 unsoundSays = 0 ∷ 20 ∷ 20 ∷ 20 ∷ 0 ∷ 20 ∷ 20 ∷ 20 ∷ 20 ∷ 20 ∷ 20 ∷ 20 ∷ 0 ∷ 20 ∷ 0 ∷ 20 ∷ 0 ∷ 20 ∷ 20 ∷ []

@@ -1,13 +1,13 @@
 -- The lent book, when it is sound, and its first entry with a key (RULES 6.3, 6.4).
-use Prim.Native.Nat.{ℕ, zero, suc, _/_, _%_}
-use mathlib.Core.Bool.{Bool, true, _&&_}
+use Prim.Native.Nat.{ℕ, _/_, _%_}
+use mathlib.Core.Bool.{Bool, _&&_}
 use mathlib.Core.List.{List}
 use lib.Dec.{eqb, leb}
 use lib.ListN.{length, getD}
-use Rattle.cells.specs.Bytes.{pick, within}
-use Rattle.entry.specs.Stored.{lineWidth, slipWidth, keyIs, slipIs, lineSound, slipSound}
-use Rattle.book.specs.declared.seek.Found.{Found}
-use Rattle.book.specs.declared.seek.Found.the-variants.{At, Nothing}
+use Rattle.cells.specs.Bytes.{within}
+use Rattle.cells.specs.Search.{firstFrom, allFrom, sumFrom}
+use Rattle.cells.specs.declared.search.Found.{Found}
+use Rattle.entry.specs.Stored.{lineWidth, slipWidth, keyIs, slipIs, openAt, lineSound, slipSound}
 
 -- what the caller lends: room for lines, room for slips, and how many of each are used
 pub record Lent : Type 0 where
@@ -41,16 +41,6 @@ slipRoom b = length (b .slips) / slipWidth
 unfoldable pub roomSound : ℕ → ℕ → ℕ → Bool
 roomSound width most n = eqb (n % width) 0 && within 1 most (n / width)
 
--- the first of the n places from i on at which a test holds
-unfoldable pub firstFrom : (ℕ → Bool) → ℕ → ℕ → Found
-firstFrom p zero i = Nothing
-firstFrom p (suc n) i = pick (p i) (At i) (firstFrom p n (suc i))
-
--- a test holds at each of the n places from i on
-unfoldable pub allFrom : (ℕ → Bool) → ℕ → ℕ → Bool
-allFrom p zero i = true
-allFrom p (suc n) i = p i && allFrom p n (suc i)
-
 -- both rooms are of right size
 unfoldable pub roomsSound : Lent → Bool
 roomsSound b = roomSound lineWidth mostLines (length (b .lines)) && roomSound slipWidth mostSlips (length (b .slips))
@@ -68,3 +58,7 @@ findLine b key = firstFrom (keyIs (b .lines) key) (usedLines b) 0
 
 unfoldable pub findSlip : Lent → List ℕ → Found
 findSlip b key = firstFrom (slipIs (b .slips) key) (usedSlips b) 0
+
+-- the open copies of a school: those of all its used lines (RULES 6.6)
+unfoldable pub openCopies : Lent → List ℕ → ℕ
+openCopies b school = sumFrom (openAt (b .lines) school) (usedLines b) 0

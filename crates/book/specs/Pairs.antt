@@ -1,30 +1,37 @@
 -- Cases for the order of booking's answers: each pair of neighbours where both hold at once, and 15, 19 and 21 by themselves, in rooms of one line and one slip.
-use Prim.Native.Nat.{ℕ, suc}
+use Prim.Native.Nat.{ℕ, suc, _*_}
 use mathlib.Core.Bool.{_&&_}
-use mathlib.Core.List.{List, [], _∷_}
+use mathlib.Core.List.{List, [], _∷_, _++_}
 use lib.Dec.{eqb}
+use lib.ListN.{replicate, take}
 use lib.Seq.{sets}
 use Rattle.cells.specs.Bytes.{pick, bytes}
 use Rattle.cells.specs.Little.{leBytes}
+use Rattle.roster.specs.Cases.{entry}
 use Rattle.record.specs.Samples.{X, Y, Z, put}
-use Rattle.entry.specs.Stored.{mostArrived, arrivedAt}
+use Rattle.entry.specs.Stored.{mostArrived, markAt, arrivedAt}
 use Rattle.book.specs.Lent.{Lent}
 use Rattle.book.specs.Booking.{book}
-use Rattle.book.specs.Cases.{roomy}
+use Rattle.book.specs.Cases.{roomy, schools}
 
--- a record given to a lent book, with the answer and place that it must give
+-- a record that meets a roster, given to a lent book, with the answer and place that it must give
 pub record Trial : Type 0 where
   pub given : List ℕ
+  pub roster : List ℕ
   pub lent : Lent
   pub answer : ℕ
   pub place : ℕ
 
+-- by the desk's roster, and by another
 abbrev pub trial : List ℕ → Lent → ℕ → ℕ → Trial
-trial s b a p = record { given = s; lent = b; answer = a; place = p }
+trial s b a p = record { given = s; roster = schools; lent = b; answer = a; place = p }
+
+abbrev pub meets : List ℕ → List ℕ → Lent → ℕ → Trial
+meets s roster b a = record { given = s; roster = roster; lent = b; answer = a; place = 0 }
 
 -- X and Y booked into room for so many slips, beside one line
 abbrev pub booked : ℕ → Lent
-booked slips = book Y (book X (roomy 1 slips) .lent) .lent
+booked slips = book Y schools (book X schools (roomy 1 slips) .lent) .lent
 
 -- all of its room is used
 abbrev pub full : Lent
@@ -85,9 +92,67 @@ trials =
     ∷ trial Z full 0 0
     ∷ []
 
+-- a school of X's with a ceiling, and a roster on which X's school is not
+abbrev pub only : ℕ → List ℕ
+only ceiling = entry "43210     VD" ceiling
+
+abbrev pub neighbour : List ℕ
+neighbour = entry "43211     VD" 500
+
+-- X for another reference, and the book after X with room for a second line, with copies that arrived and a mark
+abbrev pub other : List ℕ
+other = put 36 "A-18      " X
+
+abbrev pub room : Lent
+room = book X schools (roomy 2 1) .lent
+
+abbrev pub marked : ℕ → Lent
+marked m = lineSet markAt (m ∷ []) room
+
+-- the roster's answers: 20 for its size, 24 between 12 and the book, 25 between 14 and 15
+unfoldable pub rosterTrials : List Trial
+rosterTrials =
+    meets X (take 15 schools) (roomy 1 1) 20  -- a ragged roster, one byte short and one too long
+    ∷ meets X (take 17 schools) (roomy 1 1) 20
+    ∷ meets [] (take 1 schools) (roomy 1 1) 20  -- 20 before 2
+    ∷ meets X (replicate (63 * 16) 0 ++ only 10) (roomy 1 1) 0  -- 64 entries, 65 entries
+    ∷ meets X (replicate (64 * 16) 0 ++ only 10) (roomy 1 1) 20
+    ∷ meets X [] (roomy 1 1) 24  -- no entries
+    ∷ meets (put 36 "          " X) [] full 12  -- 12 before 24, for each kind
+    ∷ meets (put 50 "          " Y) [] full 12
+    ∷ meets (put 38 "          " Z) [] full 12
+    ∷ meets (put 61 "0000" X) [] full 11  -- 11 and 13 before 24
+    ∷ meets (put 36 "          " Y) [] full 13
+    ∷ meets X neighbour full 24  -- 24 before 14 and 15
+    ∷ meets other neighbour full 24  -- 24 before 15
+    ∷ meets Y neighbour full 24  -- 24 before 17
+    ∷ meets (put 75 "0005" Y) neighbour full 24  -- 24 before 18
+    ∷ meets next neighbour (roomy 1 1) 24  -- 24 before 16
+    ∷ meets next neighbour (arrived mostArrived full) 24  -- 24 before 21 and 19
+    ∷ meets (put 38 "A-18      " Z) neighbour full 24  -- 24 before 16 of a report
+    ∷ meets Z neighbour full 24
+    ∷ meets X (entry "43210     IB" 500) (roomy 1 1) 24  -- an account is address and qualifier
+    ∷ meets X (only 9) full 14  -- 14 before 25
+    ∷ meets other (only 15) full 25  -- 25 before 15: four of X's ten have come, six are open
+    ∷ meets other (only 16) full 15
+    ∷ meets X (only 9) (roomy 1 1) 25  -- one above the ceiling, and at it
+    ∷ meets X (only 10) (roomy 1 1) 0
+    ∷ meets X (only 0) (roomy 1 1) 25
+    ∷ meets other (only 19) room 25  -- the open copies of the line that is there count
+    ∷ meets other (only 20) room 0
+    ∷ meets other (only 10) (marked 2) 0  -- let go by N they do not
+    ∷ meets other (only 9) (marked 2) 25
+    ∷ meets other (only 19) (marked 1) 25  -- opened again by J they do
+    ∷ meets (put 63 "015J" Z) (only 0) (marked 2) 0  -- a report that opens copies past the ceiling stands, and a delivery is not asked
+    ∷ meets Y (only 0) room 0
+    ∷ meets X (only 10 ++ only 9) (roomy 1 1) 0  -- of two entries of one account the first speaks
+    ∷ meets X (only 9 ++ only 10) (roomy 1 1) 25
+    ∷ meets (put 4 "43211     " X) (only 500 ++ entry "43211     VD" 10) room 0  -- another school's copies are not counted
+    ∷ []
+
 -- the number, from n on, of the first trial that is not as it should be; 0 where all are
 unfoldable pub firstWrong : ℕ → List Trial → ℕ
 firstWrong n [] = 0
 firstWrong n (t ∷ ts) =
-    pick (eqb (book (t .given) (t .lent) .said .answer) (t .answer) && eqb (book (t .given) (t .lent) .said .place) (t .place))
+    pick (eqb (book (t .given) (t .roster) (t .lent) .said .answer) (t .answer) && eqb (book (t .given) (t .roster) (t .lent) .said .place) (t .place))
     (firstWrong (suc n) ts) n

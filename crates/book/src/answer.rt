@@ -9,7 +9,7 @@ use record::answer::refusal_place;
 use rules::amount::Copies;
 
 pub enum Refused {
-    // The lent book is unsound, or a room is of wrong size.
+    // The lent book is unsound, or a room or the roster is of wrong size.
     Unsound,
     // The record is not read.
     Unread(Refusal),
@@ -26,6 +26,10 @@ pub enum Refused {
     SlipDiffers,
     SlipsUsed,
     TooManyArrived,
+    // The school's account is not on the roster.
+    NotOnRoster,
+    // The order would bring the school's open copies above its ceiling.
+    CeilingPassed,
 }
 
 // A refusal, or the index of the line that is added or changed.
@@ -58,6 +62,8 @@ pub fn refused_number(r: Refused) -> u64
         Refused::SlipDiffers => 18,
         Refused::SlipsUsed => 19,
         Refused::TooManyArrived => 21,
+        Refused::NotOnRoster => 24,
+        Refused::CeilingPassed => 25,
     }
 }
 
@@ -78,6 +84,8 @@ pub fn refused_place(r: Refused) -> usize
         Refused::SlipDiffers => 0,
         Refused::SlipsUsed => 0,
         Refused::TooManyArrived => 0,
+        Refused::NotOnRoster => 0,
+        Refused::CeilingPassed => 0,
     }
 }
 

@@ -1,25 +1,23 @@
 // Searches and tests over the used entries of a lent book.
 ghost use mathlib.Core.Path.{_≡_};
+ghost use mathlib.Core.Bool.{true};
 ghost use Prim.Native.Nat.{_*_, _≤_, _<_};
 ghost use lib.ListN.{length};
-ghost use Rattle.entry.specs.Stored.{lineWidth, slipWidth, keyIs, slipIs, lineSound, slipSound};
-ghost use Rattle.book.specs.Lent.{lent, roomSound, firstFrom, allFrom, sound};
+ghost use Rattle.cells.specs.Search.{firstFrom, allFrom, sumFrom};
+ghost use Rattle.entry.specs.Stored.{lineWidth, slipWidth, keyIs, slipIs, openAt, lineSound, slipSound};
+ghost use Rattle.book.specs.Lent.{mostLines, lent, roomSound, sound};
+use cells::search::Found;
 use entry::stored::LINE_WIDTH;
 use entry::stored::SLIP_WIDTH;
 use entry::stored::is_line_sound;
 use entry::stored::key_is;
+use entry::stored::open_at;
 use entry::stored::slip_is;
 use entry::stored::slip_line;
 
 pub const MOST_LINES: usize = 512;
 
 pub const MOST_SLIPS: usize = 1024;
-
-// The place of an entry, or nothing.
-pub enum Found {
-    At(usize),
-    Nothing,
-}
 
 // The first of the used lines with a key.
 pub fn find_line(lines: &[u8], count: usize, key: &[u8]) -> Found
@@ -49,6 +47,20 @@ pub fn find_slip(slips: &[u8], count: usize, key: &[u8]) -> Found
         j += 1;
     }
     Found::Nothing
+}
+
+// The open copies of a school on all used lines.
+pub fn open_copies(lines: &[u8], count: usize, school: &[u8]) -> u64
+    requires { ⌜ (lineWidth * count ≤ length (now lines)) × (count ≤ mostLines) × (allFrom (lineSound (now lines)) count 0 ≡ true) ⌝ }
+    ensures { λ r. ⌜ r ≡ sumFrom (openAt (now (lines .entry)) (now (school .entry))) count 0 ⌝ }
+{
+    let mut sum: u64 = 0;
+    let mut i: usize = 0;
+    while i < count {
+        sum += open_at(lines, i, school);
+        i += 1;
+    }
+    sum
 }
 
 fn are_lines_sound(lines: &[u8], count: usize) -> bool

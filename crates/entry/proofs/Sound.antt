@@ -10,10 +10,11 @@ use lib.ListN.{length, getD}
 use lib.Seq.{sets, length-sets}
 use borrow.Author.Tests.{leb-true, le-leb}
 use Rattle.cells.specs.Little.{leAt}
-use Rattle.cells.proofs.Bools.{and-left, and-right}
+use Rattle.cells.proofs.Bools.{split, and-left, and-right}
+use Rattle.rules.specs.declared.amount.Copies.{Copies}
 use Rattle.cells.proofs.Stores.{number-ext}
-use Rattle.entry.specs.Line.{markByte}
-use Rattle.entry.specs.Stored.{lineWidth, keyWidth, markAt, arrivedAt, mostCopies, mostArrived, lineAt, putLine, addLine, lineSound}
+use Rattle.entry.specs.Line.{markByte, openOf, notFilled, figuresOf}
+use Rattle.entry.specs.Stored.{lineWidth, keyWidth, markAt, arrivedAt, mostCopies, mostArrived, lineAt, schoolIs, openAt, putLine, addLine, lineSound}
 use Rattle.entry.specs.declared.line.Mark.{Mark}
 use Rattle.entry.specs.declared.line.Mark.the-variants.{Unmarked, Held, Dropped}
 use Rattle.entry.specs.declared.line.Line.{Line}
@@ -45,6 +46,21 @@ sound-bounded ls i h =
       most = leb-true q mostCopies (and-right (leb 1 q) (leb q mostCopies) copies);
       sum = leb-true a mostArrived (and-right m (leb a mostArrived) (and-right (leb 1 q && leb q mostCopies) (m && leb a mostArrived) h));
     }
+
+-- no more copies are open on a line than were ordered
+open-most : (m : Mark) (n : Copies) → openOf m n .0 ≤ n .0
+unfolding openOf
+open-most Unmarked n = omega arith
+open-most Held n = omega arith
+open-most Dropped n = omega arith
+
+-- so on a sound line at most as many as one order may have, whatever school is asked for
+pub open-bounded : (ls school : List ℕ) (i : ℕ) → lineSound ls i ≡ true → openAt ls school i ≤ mostCopies
+unfolding openAt figuresOf
+open-bounded ls school i h =
+    let most = sound-bounded ls i h .most in
+    let low = open-most (lineAt ls i .mark) (notFilled (lineAt ls i)) in
+    split (schoolIs ls school i) (λ e. rw e (omega arith)) (λ e. rw e (omega arith))
 
 -- whether a line is sound is read from its own bytes
 sound-ext : (s t : List ℕ) (j : ℕ) → SameIn lineWidth j s t → lineSound s j ≡ lineSound t j

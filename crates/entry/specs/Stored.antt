@@ -5,11 +5,11 @@ use mathlib.Core.List.{List, _∷_, _++_}
 use lib.Dec.{leb, ltb}
 use lib.ListN.{getD}
 use lib.Seq.{slice, sets}
-use Rattle.cells.specs.Bytes.{within, same}
+use Rattle.cells.specs.Bytes.{pick, within, same}
 use Rattle.cells.specs.Little.{leAt, leBytes}
 use Rattle.rules.specs.Values.{copies}
 use Rattle.rules.specs.declared.amount.Copies.{Copies}
-use Rattle.entry.specs.Line.{markOf, markByte}
+use Rattle.entry.specs.Line.{markOf, markByte, figuresOf}
 use Rattle.entry.specs.declared.line.Line.{Line}
 
 -- a line is 56 bytes: key 49, Q 2, mark 1, A 4
@@ -18,6 +18,10 @@ lineWidth = 56
 
 abbrev pub keyWidth : ℕ
 keyWidth = 49
+
+-- school address and qualifier head the key
+abbrev pub schoolWidth : ℕ
+schoolWidth = 12
 
 abbrev pub markAt : ℕ
 markAt = 51
@@ -64,6 +68,17 @@ keyAt lines i = slice (lineWidth * i) (lineWidth * i + keyWidth) lines
 
 unfoldable pub keyIs : List ℕ → List ℕ → ℕ → Bool
 keyIs lines key i = same (keyAt lines i) key
+
+-- the line is a school's
+unfoldable pub schoolAt : List ℕ → ℕ → List ℕ
+schoolAt lines i = slice (lineWidth * i) (lineWidth * i + schoolWidth) lines
+
+unfoldable pub schoolIs : List ℕ → List ℕ → ℕ → Bool
+schoolIs lines school i = same (schoolAt lines i) school
+
+-- its open copies where it is, else none
+unfoldable pub openAt : List ℕ → List ℕ → ℕ → ℕ
+openAt lines school i = pick (schoolIs lines school i) (figuresOf (lineAt lines i) .«still_open» .0) 0
 
 unfoldable pub lineSound : List ℕ → ℕ → Bool
 lineSound lines i =

@@ -7,7 +7,9 @@ pub const SECOND_QUALIFIER_AT: usize = 22;
 
 pub const PARTIES_WIDTH: usize = 24;
 
-// A line's key goes on with the reference, the article and its qualifier.
+// A line's key begins with its school, and goes on with the reference, the article and its qualifier.
+pub const SCHOOL_WIDTH: usize = 12;
+
 pub const REFERENCE_AT: usize = 24;
 
 pub const ARTICLE_AT: usize = 34;

@@ -2,7 +2,8 @@
 ghost use mathlib.Core.Path.{_≡_};
 ghost use Prim.Native.Nat.{_+_, _*_, _≤_, _<_};
 ghost use lib.ListN.{length};
-ghost use Rattle.entry.specs.Stored.{lineWidth, keyWidth, slipWidth, slipKeyWidth, lineAt, keyIs, putLine, addLine, lineSound, slipIs, slipLineAt, slipCopiesAt, addSlip};
+ghost use Rattle.entry.specs.Stored.{lineWidth, keyWidth, slipWidth, slipKeyWidth, lineAt, keyIs, schoolIs, openAt, putLine, addLine, lineSound, slipIs, slipLineAt, slipCopiesAt, addSlip};
+use crate::key::SCHOOL_WIDTH;
 use crate::line::Line;
 use crate::line::mark_byte;
 use crate::line::mark_of;
@@ -11,6 +12,7 @@ use cells::little::get4;
 use cells::little::put2;
 use cells::little::put4;
 use cells::paste_at;
+use cells::same;
 use cells::same_by;
 use rules::amount::Copies;
 
@@ -85,6 +87,27 @@ pub fn key_is(lines: &[u8], i: usize, key: &[u8]) -> bool
     let at = LINE_WIDTH * i;
     let end = at + KEY_WIDTH;
     same_by(&lines[at..end], key, KEY_TELLS)
+}
+
+// Whether the line with an index is a school's, compared in place.
+fn school_is(lines: &[u8], i: usize, school: &[u8]) -> bool
+    requires { ⌜ lineWidth * i + lineWidth ≤ length (now lines) ⌝ }
+    ensures { λ r. ⌜ r ≡ schoolIs (now (lines .entry)) (now (school .entry)) i ⌝ }
+{
+    let at = LINE_WIDTH * i;
+    let end = at + SCHOOL_WIDTH;
+    same(&lines[at..end], school)
+}
+
+// The open copies of the line with an index where it is a school's, else none.
+pub fn open_at(lines: &[u8], i: usize, school: &[u8]) -> u64
+    requires { ⌜ lineWidth * i + lineWidth ≤ length (now lines) ⌝ }
+    ensures { λ r. ⌜ r ≡ openAt (now (lines .entry)) (now (school .entry)) i ⌝ }
+{
+    if !school_is(lines, i, school) {
+        return 0;
+    }
+    read_line(lines, i).figures().still_open.0
 }
 
 // Whether Q, the mark and A are within their bounds.

@@ -12,7 +12,7 @@ use Rattle.cells.proofs.Stores.{sets-append, sets-whole}
 use Rattle.record.specs.Layout.{layout, total, startOf, fixedWidth}
 use Rattle.record.specs.Values.{fieldBytes}
 use Rattle.record.specs.declared.layout.Kind.the-variants.{Order, Goods, Report}
-use Rattle.book.specs.Booking.{keyFields, lineKey, slipKey}
+use Rattle.book.specs.Booking.{keyFields, lineKey, slipKey, schoolIn}
 
 -- a part and the part after it, before a rest
 join : (at n m : ℕ) (s rest : List ℕ) → slice at (at + n) s ++ (slice (at + n) (at + n + m) s ++ rest) ≡ slice at (at + (n + m)) s ++ rest
@@ -46,6 +46,19 @@ module _ (s : List ℕ) where
   unfolding lineKey keyFields joined fieldBytes startOf total layout
   report-key-is =
       join 16 10 2 s _ ∙ ap (λ (r : List ℕ). slice 16 28 s ++ r) (join 4 10 2 s _ ∙ ap (λ (r : List ℕ). slice 4 16 s ++ r) (join 38 10 13 s _ ∙ join 38 23 2 s _ ∙ append-nil _))
+
+  -- the school heads the key
+  pub order-school-is : schoolIn Order s ≡ slice 4 16 s
+  unfolding schoolIn keyFields joined fieldBytes startOf total layout
+  order-school-is = join 4 10 2 s _ ∙ append-nil _
+
+  pub goods-school-is : schoolIn Goods s ≡ slice 16 28 s
+  unfolding schoolIn keyFields joined fieldBytes startOf total layout
+  goods-school-is = join 16 10 2 s _ ∙ append-nil _
+
+  pub report-school-is : schoolIn Report s ≡ slice 16 28 s
+  unfolding schoolIn keyFields joined fieldBytes startOf total layout
+  report-school-is = join 16 10 2 s _ ∙ append-nil _
 
   pub slip-key-is : slipKey s ≡ slice 4 50 s
   unfolding slipKey joined fieldBytes startOf total layout

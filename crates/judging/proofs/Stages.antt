@@ -12,14 +12,17 @@ use Rattle.rules.specs.Values.{copiesOf}
 use Rattle.rules.specs.declared.amount.Copies.{Copies}
 use Rattle.rules.specs.declared.class.Class.the-variants.{Blank}
 use Rattle.record.specs.Layout.{layout, total, startOf}
+use Rattle.roster.specs.Roster.{standing}
+use Rattle.roster.specs.declared.Standing.{Standing}
+use Rattle.roster.specs.declared.Standing.the-variants.{On, Off}
 use Rattle.record.specs.Values.{fieldBytes}
 use Rattle.record.specs.declared.layout.Kind.{Kind}
 use Rattle.record.specs.declared.layout.Kind.the-variants.{Order, Goods, Report}
 use Rattle.entry.specs.Stored.{lineWidth, slipWidth, mostArrived, lineAt, keyIs, slipLineAt, slipCopiesAt}
-use Rattle.book.specs.Lent.{Lent, usedLines, usedSlips, lineRoom, slipRoom, findLine, findSlip}
-use Rattle.book.specs.Booking.{lineKey, slipKey, copiesIn, nothingToBook, noCopies, noReference, orderJudged, slipJudged, arrivalJudged, goodsJudged, deliveryJudged, reportJudged, bookJudged, fitJudged}
-use Rattle.book.specs.declared.seek.Found.the-variants.{At, Nothing}
-use Rattle.book.specs.declared.answer.Refused.the-variants.{NothingToBook, NoCopies, NoReference, LineExists, LinesUsed, NoLine, SlipBooked, SlipDiffers, SlipsUsed, TooManyArrived}
+use Rattle.book.specs.Lent.{Lent, usedLines, usedSlips, lineRoom, slipRoom, findLine, findSlip, openCopies}
+use Rattle.book.specs.Booking.{lineKey, slipKey, schoolIn, copiesIn, nothingToBook, noCopies, noReference, newLineJudged, orderJudged, slipJudged, arrivalJudged, goodsJudged, deliveryJudged, reportJudged, bookJudged, onRoster, fitJudged}
+use Rattle.cells.specs.declared.search.Found.the-variants.{At, Nothing}
+use Rattle.book.specs.declared.answer.Refused.the-variants.{NothingToBook, NoCopies, NoReference, LineExists, LinesUsed, NoLine, SlipBooked, SlipDiffers, SlipsUsed, TooManyArrived, NotOnRoster, CeilingPassed}
 use Rattle.book.specs.declared.answer.Verdict.the-variants.{Refuse, Fits}
 
 -- the quantity, and whether a field is blank, as the code takes them from their places
@@ -55,101 +58,142 @@ none-copies e z = ap (λ (x : Copies). x .0) (sym e) ∙ z
 pub some-copies : {n m : Copies} → n ≡ m → (n .0 ≡ 0 → ⊥) → m .0 ≡ 0 → ⊥
 some-copies e h z = h (none-copies (sym e) z)
 
--- 13, 11, 12, then the book
-module _ (k : Kind) (s : List ℕ) (b : Lent) where
-  pub fit-nothing : nothingToBook k s ≡ true → fitJudged k s b ≡ Refuse NothingToBook
+-- what the roster says, as the code asks it
+module _ (roster : List ℕ) {p school : List ℕ} {r t : Standing} where
+  pub asked : r ≡ standing roster p → p ≡ school → r ≡ t → standing roster school ≡ t
+  asked e h g = ap (standing roster) (sym h) ∙ sym e ∙ g
+
+-- 13, 11, 12, 24, then the book
+module _ (k : Kind) (s roster : List ℕ) (b : Lent) where
+  pub fit-nothing : nothingToBook k s ≡ true → fitJudged k s roster b ≡ Refuse NothingToBook
   unfolding fitJudged
   fit-nothing e = rw e
 
   module _ (e : nothingToBook k s ≡ false) where
-    pub fit-copies : noCopies k s ≡ true → fitJudged k s b ≡ Refuse NoCopies
+    pub fit-copies : noCopies k s ≡ true → fitJudged k s roster b ≡ Refuse NoCopies
     unfolding fitJudged
     fit-copies f = rw (e, f)
 
     module _ (f : noCopies k s ≡ false) where
-      pub fit-reference : noReference k s ≡ true → fitJudged k s b ≡ Refuse NoReference
+      pub fit-reference : noReference k s ≡ true → fitJudged k s roster b ≡ Refuse NoReference
       unfolding fitJudged
       fit-reference g = rw (e, f, g)
 
-      pub fit-book : noReference k s ≡ false → fitJudged k s b ≡ bookJudged k s b
-      unfolding fitJudged
-      fit-book g = rw (e, f, g)
+      module _ (g : noReference k s ≡ false) where
+        pub fit-off : standing roster (schoolIn k s) ≡ Off → fitJudged k s roster b ≡ Refuse NotOnRoster
+        unfolding fitJudged onRoster
+        fit-off h = rw (e, f, g, h)
 
--- an order: 11, 12, then the book
-module _ (s : List ℕ) (b : Lent) where
-  pub order-none : copiesIn Order s .0 ≡ 0 → fitJudged Order s b ≡ Refuse NoCopies
+        pub fit-on : (ceiling : ℕ) → standing roster (schoolIn k s) ≡ On ceiling → fitJudged k s roster b ≡ bookJudged k s ceiling b
+        unfolding fitJudged onRoster
+        fit-on ceiling h = rw (e, f, g, h)
+
+-- an order: 11, 12, 24, then the book
+module _ (s roster : List ℕ) (b : Lent) where
+  pub order-none : copiesIn Order s .0 ≡ 0 → fitJudged Order s roster b ≡ Refuse NoCopies
   unfolding nothingToBook noCopies
-  order-none e = fit-copies Order s b refl (eq-eqb _ _ e)
+  order-none e = fit-copies Order s roster b refl (eq-eqb _ _ e)
 
   module _ (some : copiesIn Order s .0 ≡ 0 → ⊥) where
-    pub order-unnamed : noReference Order s ≡ true → fitJudged Order s b ≡ Refuse NoReference
+    pub order-unnamed : noReference Order s ≡ true → fitJudged Order s roster b ≡ Refuse NoReference
     unfolding nothingToBook noCopies
-    order-unnamed g = fit-reference Order s b refl (ne-eqb _ _ some) g
+    order-unnamed g = fit-reference Order s roster b refl (ne-eqb _ _ some) g
 
     module _ (g : noReference Order s ≡ false) where
-      order-book : fitJudged Order s b ≡ bookJudged Order s b
+      pub order-off : standing roster (schoolIn Order s) ≡ Off → fitJudged Order s roster b ≡ Refuse NotOnRoster
       unfolding nothingToBook noCopies
-      order-book = fit-book Order s b refl (ne-eqb _ _ some) g
+      order-off h = fit-off Order s roster b refl (ne-eqb _ _ some) g h
 
-      pub order-exists : (i : ℕ) → findLine b (lineKey Order s) ≡ At i → fitJudged Order s b ≡ Refuse LineExists
-      unfolding bookJudged orderJudged
-      order-exists i f = order-book ∙ rw f
+      pub order-on : (ceiling : ℕ) → standing roster (schoolIn Order s) ≡ On ceiling
+          → fitJudged Order s roster b ≡ orderJudged b (schoolIn Order s) (copiesIn Order s) ceiling (findLine b (lineKey Order s))
+      unfolding nothingToBook noCopies bookJudged
+      order-on ceiling h = fit-on Order s roster b refl (ne-eqb _ _ some) g ceiling h
 
-      pub order-fits : findLine b (lineKey Order s) ≡ Nothing → getD (b .used) 0 0 < length (b .lines) / lineWidth → fitJudged Order s b ≡ Fits (getD (b .used) 0 0)
-      unfolding bookJudged orderJudged usedLines lineRoom
-      order-fits f h = order-book ∙ rw (f, lt-ltb _ _ h)
-
-      pub order-full : findLine b (lineKey Order s) ≡ Nothing → length (b .lines) / lineWidth ≤ getD (b .used) 0 0 → fitJudged Order s b ≡ Refuse LinesUsed
-      unfolding bookJudged orderJudged usedLines lineRoom
-      order-full f h = order-book ∙ rw (f, le-ltb _ _ h)
-
--- a delivery: 13, 11, 12, then the book
-module _ (s : List ℕ) (b : Lent) (some : nothingToBook Goods s ≡ false) where
-  pub goods-none : copiesIn Goods s .0 ≡ 0 → fitJudged Goods s b ≡ Refuse NoCopies
+-- a delivery: 13, 11, 12, 24, then the book
+module _ (s roster : List ℕ) (b : Lent) (some : nothingToBook Goods s ≡ false) where
+  pub goods-none : copiesIn Goods s .0 ≡ 0 → fitJudged Goods s roster b ≡ Refuse NoCopies
   unfolding noCopies
-  goods-none e = fit-copies Goods s b some (eq-eqb _ _ e)
+  goods-none e = fit-copies Goods s roster b some (eq-eqb _ _ e)
 
   module _ (copies : copiesIn Goods s .0 ≡ 0 → ⊥) where
-    pub goods-unnamed : noReference Goods s ≡ true → fitJudged Goods s b ≡ Refuse NoReference
+    pub goods-unnamed : noReference Goods s ≡ true → fitJudged Goods s roster b ≡ Refuse NoReference
     unfolding noCopies
-    goods-unnamed g = fit-reference Goods s b some (ne-eqb _ _ copies) g
+    goods-unnamed g = fit-reference Goods s roster b some (ne-eqb _ _ copies) g
 
     module _ (g : noReference Goods s ≡ false) where
-      goods-book : fitJudged Goods s b ≡ bookJudged Goods s b
+      pub goods-off : standing roster (schoolIn Goods s) ≡ Off → fitJudged Goods s roster b ≡ Refuse NotOnRoster
       unfolding noCopies
-      goods-book = fit-book Goods s b some (ne-eqb _ _ copies) g
+      goods-off h = fit-off Goods s roster b some (ne-eqb _ _ copies) g h
 
-      pub goods-again : (j : ℕ) → findSlip b (slipKey s) ≡ At j → fitJudged Goods s b ≡ slipJudged b (lineKey Goods s) (copiesIn Goods s) j
-      unfolding bookJudged deliveryJudged
-      goods-again j f = goods-book ∙ rw f
+      pub goods-on : (ceiling : ℕ) → standing roster (schoolIn Goods s) ≡ On ceiling
+          → fitJudged Goods s roster b ≡ deliveryJudged b (lineKey Goods s) (copiesIn Goods s) (findSlip b (slipKey s))
+      unfolding noCopies bookJudged
+      goods-on ceiling h = fit-on Goods s roster b some (ne-eqb _ _ copies) g ceiling h
 
-      module _ (f : findSlip b (slipKey s) ≡ Nothing) where
-        pub goods-unknown : findLine b (lineKey Goods s) ≡ Nothing → fitJudged Goods s b ≡ Refuse NoLine
-        unfolding bookJudged deliveryJudged goodsJudged
-        goods-unknown l = goods-book ∙ rw (f, l)
-
-        pub goods-arrive : (i : ℕ) → findLine b (lineKey Goods s) ≡ At i → fitJudged Goods s b ≡ arrivalJudged b (copiesIn Goods s) i
-        unfolding bookJudged deliveryJudged goodsJudged
-        goods-arrive i l = goods-book ∙ rw (f, l)
-
--- a report: 12, then the book
-module _ (s : List ℕ) (b : Lent) where
-  pub report-unnamed : noReference Report s ≡ true → fitJudged Report s b ≡ Refuse NoReference
+-- a report: 12, 24, then the book
+module _ (s roster : List ℕ) (b : Lent) where
+  pub report-unnamed : noReference Report s ≡ true → fitJudged Report s roster b ≡ Refuse NoReference
   unfolding nothingToBook noCopies
-  report-unnamed g = fit-reference Report s b refl refl g
+  report-unnamed g = fit-reference Report s roster b refl refl g
 
   module _ (g : noReference Report s ≡ false) where
-    report-book : fitJudged Report s b ≡ bookJudged Report s b
+    pub report-off : standing roster (schoolIn Report s) ≡ Off → fitJudged Report s roster b ≡ Refuse NotOnRoster
     unfolding nothingToBook noCopies
-    report-book = fit-book Report s b refl refl g
+    report-off h = fit-off Report s roster b refl refl g h
 
-    pub report-unknown : findLine b (lineKey Report s) ≡ Nothing → fitJudged Report s b ≡ Refuse NoLine
-    unfolding bookJudged reportJudged
-    report-unknown f = report-book ∙ rw f
+    pub report-on : (ceiling : ℕ) → standing roster (schoolIn Report s) ≡ On ceiling → fitJudged Report s roster b ≡ reportJudged (findLine b (lineKey Report s))
+    unfolding nothingToBook noCopies bookJudged
+    report-on ceiling h = fit-on Report s roster b refl refl g ceiling h
 
-    pub report-fits : (i : ℕ) → findLine b (lineKey Report s) ≡ At i → fitJudged Report s b ≡ Fits i
-    unfolding bookJudged reportJudged
-    report-fits i f = report-book ∙ rw f
+-- 14, then the ceiling and the room
+module _ (b : Lent) (school : List ℕ) (n : Copies) (ceiling : ℕ) (key : List ℕ) where
+  pub new-exists : (i : ℕ) → findLine b key ≡ At i → orderJudged b school n ceiling (findLine b key) ≡ Refuse LineExists
+  unfolding orderJudged
+  new-exists i f = rw f
+
+  pub new-line : findLine b key ≡ Nothing → orderJudged b school n ceiling (findLine b key) ≡ newLineJudged b (openCopies b school + n .0) ceiling
+  unfolding orderJudged
+  new-line f = rw f
+
+-- 25, 15
+module _ (b : Lent) (copies ceiling : ℕ) where
+  pub room-passed : ceiling < copies → newLineJudged b copies ceiling ≡ Refuse CeilingPassed
+  unfolding newLineJudged
+  room-passed h = rw (lt-leb _ _ h)
+
+  module _ (h : copies ≤ ceiling) where
+    pub room-fits : getD (b .used) 0 0 < length (b .lines) / lineWidth → newLineJudged b copies ceiling ≡ Fits (getD (b .used) 0 0)
+    unfolding newLineJudged usedLines lineRoom
+    room-fits u = rw (le-leb _ _ h, lt-ltb _ _ u)
+
+    pub room-full : length (b .lines) / lineWidth ≤ getD (b .used) 0 0 → newLineJudged b copies ceiling ≡ Refuse LinesUsed
+    unfolding newLineJudged usedLines lineRoom
+    room-full u = rw (le-leb _ _ h, le-ltb _ _ u)
+
+-- 17 or 18, 16, then the rest
+module _ (b : Lent) (key : List ℕ) (n : Copies) (slip : List ℕ) where
+  pub slip-again : (j : ℕ) → findSlip b slip ≡ At j → deliveryJudged b key n (findSlip b slip) ≡ slipJudged b key n j
+  unfolding deliveryJudged
+  slip-again j f = rw f
+
+  module _ (f : findSlip b slip ≡ Nothing) where
+    pub slip-unknown : findLine b key ≡ Nothing → deliveryJudged b key n (findSlip b slip) ≡ Refuse NoLine
+    unfolding deliveryJudged goodsJudged
+    slip-unknown l = rw (f, l)
+
+    pub slip-arrives : (i : ℕ) → findLine b key ≡ At i → deliveryJudged b key n (findSlip b slip) ≡ arrivalJudged b n i
+    unfolding deliveryJudged goodsJudged
+    slip-arrives i l = rw (f, l)
+
+-- 16
+module _ (b : Lent) (key : List ℕ) where
+  pub mark-unknown : findLine b key ≡ Nothing → reportJudged (findLine b key) ≡ Refuse NoLine
+  unfolding reportJudged
+  mark-unknown f = rw f
+
+  pub mark-fits : (i : ℕ) → findLine b key ≡ At i → reportJudged (findLine b key) ≡ Fits i
+  unfolding reportJudged
+  mark-fits i f = rw f
 
 -- 17 or 18, by whether line key and quantity are the same
 module _ (b : Lent) (key : List ℕ) (n : Copies) (j : ℕ) where

@@ -6,10 +6,11 @@ use Prim.Native.Nat.{ℕ, _≤_}
 use native.Mathlib.Omega.{arith}
 use lib.ListN.{length}
 use borrow.Author.Tests.{eqb-false, le-leb}
+use Rattle.cells.specs.Search.{allFrom}
 use Rattle.record.specs.declared.layout.Kind.{Kind}
 use Rattle.record.specs.declared.layout.Kind.the-variants.{Order, Goods, Closing, Report}
 use Rattle.reader.proofs.Fitting.{Fitting}
-use Rattle.book.specs.Lent.{Lent, usedLines, usedSlips, allFrom, sound, findLine, findSlip}
+use Rattle.book.specs.Lent.{Lent, usedLines, usedSlips, sound, findLine, findSlip}
 use Rattle.book.specs.Booking.{lineKey, slipKey, copiesIn, markIn, noCopies, bookJudged, lineAfter, lentAfter}
 use Rattle.book.proofs.Fields.{order-key, slip-key-width, order-copies, goods-copies}
 use Rattle.balance.specs.Demand3.{fresh, giveAll}

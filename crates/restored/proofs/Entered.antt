@@ -21,8 +21,8 @@ use Rattle.entry.proofs.Sound.{Bounded}
 use Rattle.entry.proofs.Kept.{put-key, put-back, put-apart, add-back, add-key, add-apart, add-key-apart, slip-key, slip-line, slip-copies, slip-key-apart, slip-line-apart, slip-copies-apart}
 use Rattle.book.specs.Lent.{Lent, usedLines, usedSlips, lineRoom, slipRoom, findLine, findSlip}
 use Rattle.book.specs.Booking.{keyFields, slipFields, newLine}
-use Rattle.book.specs.declared.seek.Found.the-variants.{At, Nothing}
-use Rattle.book.proofs.Searches.{none-at}
+use Rattle.cells.specs.declared.search.Found.the-variants.{At, Nothing}
+use Rattle.cells.proofs.Searches.{none-at}
 use Rattle.book.proofs.Sounds.{sound-so}
 use Rattle.balance.proofs.Found.{line-used}
 use Rattle.balance.proofs.Entered.{withLine, at, put-kept, moreLine, next, lines-after, slips-after, add-kept, moreSlip, slip-next, lines-as-before, one-slip-more, slip-kept}

@@ -11,11 +11,11 @@ use lib.ListN.{length, getD, drop, length-append}
 use lib.Seq.{slice, drop-cons}
 use borrow.Author.Tests.{eqb-true, eq-eqb, le-leb}
 use Rattle.cells.specs.Little.{leAt, leBytes}
+use Rattle.cells.specs.Search.{allFrom}
 use Rattle.cells.proofs.Bools.{and-left, and-right}
 use Rattle.cells.proofs.Numbers.{le-back}
 use Rattle.cells.proofs.Parts.{to-end}
-use Rattle.book.specs.Lent.{allFrom}
-use Rattle.book.proofs.Searches.{all-at}
+use Rattle.cells.proofs.Searches.{all-at}
 use Rattle.balance.proofs.Listings.{each-place}
 use Rattle.save.specs.Entries.{entriesKept}
 use Rattle.save.specs.Saved.{lineKind, slipKind, endKind, savedLineWidth, savedSlipWidth, joinedFrom, endEntry, savedWidth, statedLines, statedSlips, lineIn, slipIn, allOfKind, inForm, isSave}

@@ -14,7 +14,7 @@ use Rattle.record.specs.declared.layout.Kind.the-variants.{Goods}
 use Rattle.entry.specs.Stored.{keyWidth, markAt, slipKeyWidth, mostCopies, keyAt, slipKeyAt}
 use Rattle.book.specs.Lent.{Lent, usedLines, usedSlips}
 use Rattle.book.specs.Booking.{keyFields}
-use Rattle.book.proofs.Searches.{all-at}
+use Rattle.cells.proofs.Searches.{all-at}
 use Rattle.save.specs.Entries.{referenceAt, keyKept, lineKept, lineIndex, isFirst}
 use Rattle.save.specs.Saved.{lineBodyAt, slipBodyAt}
 use Rattle.restored.specs.Restored.{Orderly}

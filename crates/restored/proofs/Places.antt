@@ -6,8 +6,8 @@ use native.Mathlib.Nat.{add-zero}
 use native.Mathlib.Omega.{arith}
 use native.Mathlib.Decide.{decLe}
 use Rattle.cells.specs.Bytes.{pick}
-use Rattle.book.specs.Lent.{firstFrom, allFrom}
-use Rattle.book.specs.declared.seek.Found.the-variants.{At, Nothing}
+use Rattle.cells.specs.Search.{firstFrom, allFrom}
+use Rattle.cells.specs.declared.search.Found.the-variants.{At, Nothing}
 use Rattle.save.specs.Entries.{sumFrom}
 
 -- tests that agree at each place

@@ -10,6 +10,7 @@ use native.Mathlib.Omega.{arith}
 use borrow.Author.Tests.{eqb-true, eqb-false, eq-eqb, ne-eqb, ltb-true, ltb-false, lt-ltb, le-ltb, lt-leb}
 use lib.Dec.{eqb, ltb}
 use Rattle.cells.specs.Bytes.{pick, same}
+use Rattle.cells.specs.Search.{firstFrom}
 use Rattle.cells.proofs.Bools.{split}
 use Rattle.cells.proofs.Lists.{same-refl}
 use Rattle.ledger.specs.Lists.{given, found}
@@ -17,8 +18,7 @@ use Rattle.ledger.specs.Book.{Key, Report, Line, Slip, Book, Rooms}
 use Rattle.ledger.specs.Booking.{Fit, order, goods, report, lineAt, slipAt, done, firstOf, mostArrived, tests, judge, arrive, tell, changeLine, enter}
 use Rattle.ledger.specs.History.{bookings}
 use Rattle.ledger.proofs.Gives.{Gives, gives-more}
-use Rattle.book.specs.Lent.{firstFrom}
-use Rattle.book.specs.declared.seek.Found.the-variants.{At}
+use Rattle.cells.specs.declared.search.Found.the-variants.{At}
 use Rattle.balance.specs.Told.{listed}
 use Rattle.balance.proofs.Listings.{listed-length, listed-same, listed-more, none-listed, first-listed, change-listed}
 use Rattle.save.specs.Entries.{sumFrom}

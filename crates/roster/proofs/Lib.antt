@@ -1,1 +1,5 @@
 pub mod Standings
+pub mod Told
+pub mod Agree
+pub mod Formed
+pub mod Computed

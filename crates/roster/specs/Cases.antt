@@ -3,11 +3,11 @@ use Prim.Native.Nat.{ℕ, _*_}
 use Prim.Native.String.{String}
 use mathlib.Core.Bool.{Bool, true, false}
 use mathlib.Core.List.{List, [], _∷_, _++_}
-use lib.ListN.{replicate, take, length}
+use lib.ListN.{replicate, take}
 use Rattle.cells.specs.Bytes.{bytes}
 use Rattle.cells.specs.Little.{leBytes}
 use Rattle.roster.specs.Roster.{entryWidth, ceilingWidth, rosterSound, standing}
-use Rattle.roster.specs.Schools.{bytesOf, accountTold}
+use Rattle.roster.specs.Schools.{accountTold}
 use Rattle.roster.specs.declared.Standing.{Standing}
 use Rattle.roster.specs.declared.Standing.the-variants.{On, Off}
 use Rattle.roster.specs.declared.schools.School.{School}

@@ -1,3 +1,4 @@
 pub mod Roster
 pub mod Schools
 pub mod Cases
+pub mod Agreement

@@ -2,6 +2,8 @@
 use mathlib.Core.Path.{_≡_, refl}
 use Rattle.cells.specs.Bytes.{all, any, run, same, among, joined}
 use Rattle.cells.specs.Little.{leAt, leBytes}
+use Rattle.cells.specs.Search.{firstFrom, allFrom, sumFrom}
+use Rattle.roster.specs.Roster.{entries, rosterSound, accountAt, accountIs, ceilingAt, findAccount, standingAt, standing}
 use Rattle.rules.specs.Class.{belongs, allOf, ofClass, padded, named}
 use Rattle.rules.specs.Number.{numberFrom}
 use Rattle.rules.specs.Day.{leap, monthDays, realDay, dayOf, isDay}
@@ -16,16 +18,16 @@ use Rattle.record.specs.Read.{bytesJudged, fixedJudged, afterWalk, optionalJudg
 use Rattle.record.specs.Samples.{X, Z, cases, firstWrong}
 use Rattle.record.specs.Edges.{fullTable}
 use Rattle.entry.specs.Line.{markByte, withMark, withArrivals, openOf, letGoOf, filledOf, figuresOf}
-use Rattle.entry.specs.Stored.{lineAt, lineBytes, putLine, addLine, keyAt, keyIs, lineSound, slipKeyAt, slipIs, slipLineAt, slipCopiesAt, addSlip, slipSound}
-use Rattle.book.specs.Lent.{usedLines, usedSlips, lineRoom, slipRoom, roomSound, firstFrom, allFrom, sound, findLine, findSlip, roomsSound}
-use Rattle.book.specs.Booking.{refusedNumber, refusedPlace, keyFields, lineKey, slipKey, copiesIn, nothingToBook, noCopies, noReference, markIn, orderJudged, slipJudged, arrivalJudged, goodsJudged, deliveryJudged, reportJudged, bookJudged, fitJudged, newLine, lineAfter, lentAfter, refusedAs, doneAs, enteredAs, settled, bookAs, bookKind, bookRead, book}
+use Rattle.entry.specs.Stored.{lineAt, lineBytes, putLine, addLine, keyAt, keyIs, schoolAt, schoolIs, openAt, lineSound, slipKeyAt, slipIs, slipLineAt, slipCopiesAt, addSlip, slipSound}
+use Rattle.book.specs.Lent.{usedLines, usedSlips, lineRoom, slipRoom, roomSound, sound, findLine, findSlip, openCopies, roomsSound}
+use Rattle.book.specs.Booking.{refusedNumber, refusedPlace, keyFields, lineKey, schoolIn, slipKey, copiesIn, nothingToBook, noCopies, noReference, markIn, newLineJudged, orderJudged, slipJudged, arrivalJudged, goodsJudged, deliveryJudged, reportJudged, bookJudged, onRoster, fitJudged, newLine, lineAfter, lentAfter, refusedAs, doneAs, enteredAs, settled, bookAs, bookKind, bookRead, book}
 use Rattle.book.specs.Asked.{areWide, figuresAt, figuresOfKey, lineAsked}
-use Rattle.book.specs.Cases.{roomy, desk, sample, sampleSays, others, othersSay, says, unsound, answersTo, unsoundSays, asked, askedSay}
-use Rattle.book.specs.Pairs.{trials, firstWrong as trialWrong}
+use Rattle.book.specs.Cases.{roomy, schools, desk, sample, sampleSays, others, othersSay, says, unsound, answersTo, unsoundSays, asked, askedSay}
+use Rattle.book.specs.Pairs.{trials, rosterTrials, firstWrong as trialWrong}
 
 -- the line that X adds, asked for by its key
-calls-by-key : asked (book X (roomy 1 1) .lent) ≡ askedSay
-unfolding all any run same among leAt leBytes belongs allOf ofClass padded named numberFrom leap monthDays realDay dayOf isDay checkValue weighted gs1 isbn seriesVolume article texts dayCount expected keeps layout total fixedWidth startOf kindOf firstBroken contents isIn ruleIn contentRule guardedIds guarded contentKept groups firstOf nextIn previousIn groupWith nextMember previousMember isWanted groupKept refusalNumber refusalPlace checkedOf _then_ headOf idIn idOf contentWidth contentOf fieldWidth afterField onHead atField walk judge fieldBytes bytesJudged fixedJudged afterWalk optionalJudged kindJudged judged markByte withMark withArrivals openOf letGoOf filledOf figuresOf lineAt lineBytes putLine addLine keyAt keyIs lineSound slipKeyAt slipIs slipLineAt slipCopiesAt addSlip slipSound usedLines usedSlips lineRoom slipRoom roomSound roomsSound firstFrom allFrom sound findLine findSlip refusedNumber refusedPlace joined keyFields lineKey slipKey copiesIn nothingToBook noCopies noReference markIn orderJudged slipJudged arrivalJudged goodsJudged deliveryJudged reportJudged bookJudged fitJudged newLine lineAfter lentAfter refusedAs doneAs enteredAs settled bookAs bookKind bookRead book areWide figuresAt figuresOfKey lineAsked asked askedSay
+calls-by-key : asked (book X schools (roomy 1 1) .lent) ≡ askedSay
+unfolding all any run same among leAt leBytes belongs allOf ofClass padded named numberFrom leap monthDays realDay dayOf isDay checkValue weighted gs1 isbn seriesVolume article texts dayCount expected keeps layout total fixedWidth startOf kindOf firstBroken contents isIn ruleIn contentRule guardedIds guarded contentKept groups firstOf nextIn previousIn groupWith nextMember previousMember isWanted groupKept refusalNumber refusalPlace checkedOf _then_ headOf idIn idOf contentWidth contentOf fieldWidth afterField onHead atField walk judge fieldBytes bytesJudged fixedJudged afterWalk optionalJudged kindJudged judged markByte withMark withArrivals openOf letGoOf filledOf figuresOf lineAt lineBytes putLine addLine keyAt keyIs schoolAt schoolIs openAt lineSound slipKeyAt slipIs slipLineAt slipCopiesAt addSlip slipSound usedLines usedSlips lineRoom slipRoom roomSound roomsSound firstFrom allFrom sumFrom sound rosterSound entries accountAt accountIs ceilingAt findAccount standingAt standing findLine findSlip openCopies refusedNumber refusedPlace joined keyFields lineKey schoolIn slipKey copiesIn nothingToBook noCopies noReference markIn newLineJudged orderJudged slipJudged arrivalJudged goodsJudged deliveryJudged reportJudged bookJudged onRoster fitJudged newLine lineAfter lentAfter refusedAs doneAs enteredAs settled bookAs bookKind bookRead book areWide figuresAt figuresOfKey lineAsked asked askedSay
 calls-by-key = refl
 
 pub record Computed : Type 0 where
@@ -35,10 +37,12 @@ pub record Computed : Type 0 where
   pub desk-sample : desk (roomy 2 4) sample ≡ sampleSays
   pub desk-others : desk (roomy 3 5) others ≡ othersSay
   pub broken : answersTo Z unsound ≡ unsoundSays
-  pub keyed : asked (book X (roomy 1 1) .lent) ≡ askedSay
+  pub keyed : asked (book X schools (roomy 1 1) .lent) ≡ askedSay
   -- the order of the answers, pair by pair
   pub ordered : trialWrong 1 trials ≡ 0
+  -- and with other rosters
+  pub rosters : trialWrong 1 rosterTrials ≡ 0
 
 pub computed : Computed
-unfolding all any run same among leAt leBytes belongs allOf ofClass padded named numberFrom leap monthDays realDay dayOf isDay checkValue weighted gs1 isbn seriesVolume article texts dayCount expected keeps layout total fixedWidth startOf kindOf firstBroken contents isIn ruleIn contentRule guardedIds guarded contentKept groups firstOf nextIn previousIn groupWith nextMember previousMember isWanted groupKept refusalNumber refusalPlace checkedOf _then_ headOf idIn idOf contentWidth contentOf fieldWidth afterField onHead atField walk judge fieldBytes bytesJudged fixedJudged afterWalk optionalJudged kindJudged judged entriesOf optionalStart tableAfter check fullTable cases firstWrong markByte withMark withArrivals openOf letGoOf filledOf figuresOf lineAt lineBytes putLine addLine keyAt keyIs lineSound slipKeyAt slipIs slipLineAt slipCopiesAt addSlip slipSound usedLines usedSlips lineRoom slipRoom roomSound roomsSound firstFrom allFrom sound findLine findSlip refusedNumber refusedPlace joined keyFields lineKey slipKey copiesIn nothingToBook noCopies noReference markIn orderJudged slipJudged arrivalJudged goodsJudged deliveryJudged reportJudged bookJudged fitJudged newLine lineAfter lentAfter refusedAs doneAs enteredAs settled bookAs bookKind bookRead book desk sample sampleSays others othersSay unsound answersTo unsoundSays trials trialWrong
-computed = record { samples = refl; desk-sample = refl; desk-others = refl; broken = refl; keyed = calls-by-key; ordered = refl }
+unfolding all any run same among leAt leBytes belongs allOf ofClass padded named numberFrom leap monthDays realDay dayOf isDay checkValue weighted gs1 isbn seriesVolume article texts dayCount expected keeps layout total fixedWidth startOf kindOf firstBroken contents isIn ruleIn contentRule guardedIds guarded contentKept groups firstOf nextIn previousIn groupWith nextMember previousMember isWanted groupKept refusalNumber refusalPlace checkedOf _then_ headOf idIn idOf contentWidth contentOf fieldWidth afterField onHead atField walk judge fieldBytes bytesJudged fixedJudged afterWalk optionalJudged kindJudged judged entriesOf optionalStart tableAfter check fullTable cases firstWrong markByte withMark withArrivals openOf letGoOf filledOf figuresOf lineAt lineBytes putLine addLine keyAt keyIs schoolAt schoolIs openAt lineSound slipKeyAt slipIs slipLineAt slipCopiesAt addSlip slipSound usedLines usedSlips lineRoom slipRoom roomSound roomsSound firstFrom allFrom sumFrom sound rosterSound entries accountAt accountIs ceilingAt findAccount standingAt standing findLine findSlip openCopies refusedNumber refusedPlace joined keyFields lineKey schoolIn slipKey copiesIn nothingToBook noCopies noReference markIn newLineJudged orderJudged slipJudged arrivalJudged goodsJudged deliveryJudged reportJudged bookJudged onRoster fitJudged newLine lineAfter lentAfter refusedAs doneAs enteredAs settled bookAs bookKind bookRead book desk sample sampleSays others othersSay unsound answersTo unsoundSays trials rosterTrials trialWrong
+computed = record { samples = refl; desk-sample = refl; desk-others = refl; broken = refl; keyed = calls-by-key; ordered = refl; rosters = refl }

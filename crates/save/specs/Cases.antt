@@ -9,7 +9,7 @@ use Rattle.cells.specs.Little.{leBytes}
 use Rattle.record.specs.Samples.{X, Y, Z, put}
 use Rattle.book.specs.Lent.{Lent}
 use Rattle.book.specs.Booking.{book}
-use Rattle.book.specs.Cases.{roomy}
+use Rattle.book.specs.Cases.{roomy, schools}
 use Rattle.save.specs.Load.{load}
 
 -- a saved line and a saved slip from texts and numbers, and the end
@@ -130,7 +130,7 @@ firstWrong n (c ∷ cs) = pick (eqb (load (c .saved) (roomy 2 2) .said .answer) 
 
 -- the book after X, Y and the report Z with J
 abbrev pub day : Lent
-day = book (put 63 "015J" Z) (book Y (book X (roomy 2 2) .lent) .lent) .lent
+day = book (put 63 "015J" Z) schools (book Y schools (book X schools (roomy 2 2) .lent) .lent) .lent
 
 -- the same rooms with other used counts: three lines, where there is room for two
 abbrev pub overused : Lent

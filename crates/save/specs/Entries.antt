@@ -7,13 +7,13 @@ use lib.ListN.{length, getD, take}
 use lib.Seq.{slice}
 use Rattle.cells.specs.Bytes.{pick, within, same}
 use Rattle.cells.specs.Little.{leAt}
+use Rattle.cells.specs.Search.{allFrom}
 use Rattle.rules.specs.Class.{allOf}
 use Rattle.rules.specs.declared.class.Class.the-variants.{Allowed, Blank}
 use Rattle.record.specs.Layout.{noField, layout, firstBroken}
 use Rattle.record.specs.declared.layout.Field.{Field}
 use Rattle.record.specs.declared.layout.Kind.the-variants.{Goods}
 use Rattle.entry.specs.Stored.{keyWidth, markAt, slipKeyWidth, slipCopiesPlace, mostCopies, mostArrived}
-use Rattle.book.specs.Lent.{allFrom}
 use Rattle.book.specs.Booking.{keyFields, slipFields}
 
 -- the highest byte that is a mark

@@ -7,8 +7,9 @@ use lib.ListN.{length, getD}
 use lib.Seq.{slice, sets}
 use Rattle.cells.specs.Bytes.{pick}
 use Rattle.cells.specs.Little.{leAt, leBytes}
+use Rattle.cells.specs.Search.{allFrom}
 use Rattle.entry.specs.Stored.{lineWidth, slipWidth, arrivedAt}
-use Rattle.book.specs.Lent.{Lent, usedLines, usedSlips, allFrom, sound}
+use Rattle.book.specs.Lent.{Lent, usedLines, usedSlips, sound}
 use Rattle.save.specs.Entries.{entriesKept}
 use Rattle.save.specs.declared.answer.Refused.{Refused}
 use Rattle.save.specs.declared.answer.Refused.the-variants.{Unsound, NoSave, TooSmall}

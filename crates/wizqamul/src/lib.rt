@@ -1,4 +1,5 @@
 // The C library: the calls that the host program links, over byte slices and numbers. A slice is a pointer and a length, `used` one pointer.
+// The checker covers no function with a `&[School]`: `wq_account` is walked by hand.
 ghost use mathlib.Core.Path.{_≡_};
 ghost use mathlib.Core.List.{[], _∷_};
 ghost use Rattle.record.specs.Read.{outcome as read, check};
@@ -8,8 +9,14 @@ ghost use Rattle.book.specs.Booking.{outcome as booked, book};
 ghost use Rattle.book.specs.Asked.{lineAsked};
 ghost use Rattle.save.specs.Saved.{written as saved, save};
 ghost use Rattle.save.specs.Load.{outcome as loaded, load};
+ghost use Rattle.roster.specs.Schools.{accountTold};
 use book::answer::Booked;
 use record::answer::Checked;
+use roster::schools::AccountTold;
+use roster::schools::School;
+use roster::schools::ceiling_of;
+use roster::schools::find_school;
+use roster::schools::told;
 use save::answer::Loaded;
 use save::answer::Saved;
 use writing::answer::Written;
@@ -77,6 +84,16 @@ pub extern "C" fn wq_line(
         slips,
         used,
     )
+}
+
+// What the roster says of an account.
+#[no_mangle]
+pub extern "C" fn wq_account(schools: &[School], address: &[u8], qualifier: &[u8]) -> AccountTold
+    ensures { λ r. ⌜ r ≡ accountTold (now (schools .entry)) (now (address .entry)) (now (qualifier .entry)) ⌝ }
+{
+    let i = find_school(schools, address, qualifier);
+    let ceiling = ceiling_of(schools, i);
+    told(schools.len(), i, ceiling)
 }
 
 // Saves the lent book at the front of the output.

@@ -1,18 +1,18 @@
 -- `booking::book` meets its contract.
 use mathlib.Core.Path.{_∙_, sym, ap}
-use Rattle.cells.proofs.Bools.{is-not, is-so}
+use Rattle.cells.proofs.Bools.{is-not, is-so, and-right}
 use Rattle.reader.proofs.Fitting.{fitting}
 use Rattle.record.specs.declared.layout.Kind.the-variants.{Order, Goods, Closing, Report}
 use Rattle.record.specs.declared.layout.Kinded.the-variants.{Known}
-use Rattle.book.proofs.Fields.{goods-copies}
+use Rattle.book.proofs.Fields.{order-copies, goods-copies}
 use Rattle.booking.proofs.Rooms.{fixed-wide}
 use Rattle.booking.proofs.Stages.{book-unsound, book-unread, book-unknown, book-known, closing-so}
 use borrow.Author.Needs.{needs}
 use Rattle.booking.proofs.book.Statement.{statement}
 use Rattle.booking.proofs.book.Tie as tie
 
-is-sound-requires : tie.Need-is-sound-requires
-is-sound-requires c κs = search needs
+are-sound-requires : tie.Need-are-sound-requires
+are-sound-requires c κs = search needs
 
 refuse-requires : tie.Need-refuse-requires
 refuse-requires c κs = search needs
@@ -26,7 +26,7 @@ same-length-2 c = search needs
 returns : tie.Need-returns
 returns c =
     let then = c .before in
-    rw (c .refuse .ensures) (sym (book-unsound _ _ (is-not (then .before .is-sound .ensures) (then .if1 .taken))))
+    rw (c .refuse .ensures) (sym (book-unsound _ _ _ (is-not (then .before .are-sound .ensures) (then .if1 .taken))))
 
 judge-record-requires : tie.Need-judge-record-requires
 judge-record-requires c κs = search needs
@@ -62,10 +62,10 @@ book-order-requires c κs =
     let kind = known .before .before in
     let read = kind .before in
     let judge = read .before .before in
-    let else = judge .before in (
-      is-so (else .before .is-sound .ensures) (else .if1 .left),
-      fixed-wide Order _ _ (sym (kind .kind-of .ensures) ∙ known .k .given .1 ∙ ap Known (arm .enum-told3 .given .1)) (sym (judge .judge-record .ensures) ∙ read .enum-told .given .1),
-    )
+    let else = judge .before in
+    let g = sym (kind .kind-of .ensures) ∙ known .k .given .1 ∙ ap Known (arm .enum-told3 .given .1) in
+    let f = sym (judge .judge-record .ensures) ∙ read .enum-told .given .1 in
+    (and-right _ _ (is-so (else .before .are-sound .ensures) (else .if1 .left)), fixed-wide Order _ _ g f, order-copies _ _ (fitting Order _ _ g f))
 
 enum-told-4 : tie.Need-enum-told-4
 enum-told-4 c = search needs
@@ -80,7 +80,7 @@ book-goods-requires c κs =
     let else = judge .before in
     let g = sym (kind .kind-of .ensures) ∙ known .k .given .1 ∙ ap Known (arm .enum-told4 .given .1) in
     let f = sym (judge .judge-record .ensures) ∙ read .enum-told .given .1 in
-    (is-so (else .before .is-sound .ensures) (else .if1 .left), fixed-wide Goods _ _ g f, goods-copies _ _ (fitting Goods _ _ g f))
+    (and-right _ _ (is-so (else .before .are-sound .ensures) (else .if1 .left)), fixed-wide Goods _ _ g f, goods-copies _ _ (fitting Goods _ _ g f))
 
 enum-told-5 : tie.Need-enum-told-5
 enum-told-5 c = search needs
@@ -99,7 +99,7 @@ book-report-requires c κs =
     let read = kind .before in
     let judge = read .before .before in
     let else = judge .before in (
-      is-so (else .before .is-sound .ensures) (else .if1 .left),
+      and-right _ _ (is-so (else .before .are-sound .ensures) (else .if1 .left)),
       fixed-wide Report _ _ (sym (kind .kind-of .ensures) ∙ known .k .given .1 ∙ ap Known (arm .enum-told6 .given .1)) (sym (judge .judge-record .ensures) ∙ read .enum-told .given .1),
     )
 
@@ -114,7 +114,7 @@ returns-2 c =
     let arm = c .before .before in
     let judge = arm .before .before in
     let else = judge .before in
-    rw (c .refuse2 .ensures) (sym (book-unread _ _ (is-so (else .before .is-sound .ensures) (else .if1 .left)) _ (sym (judge .judge-record .ensures) ∙ arm .r .given .1)))
+    rw (c .refuse2 .ensures) (sym (book-unread _ _ _ (is-so (else .before .are-sound .ensures) (else .if1 .left)) _ (sym (judge .judge-record .ensures) ∙ arm .r .given .1)))
 
 same-length-5 : tie.Need-same-length-5
 same-length-5 c = search needs
@@ -130,7 +130,7 @@ returns-3 c =
     let judge = read .before .before in
     let else = judge .before in
     let f = sym (judge .judge-record .ensures) ∙ read .enum-told .given .1 in
-    rw (c .refuse3 .ensures) (sym (book-unknown _ _ (is-so (else .before .is-sound .ensures) (else .if1 .left)) _ f (sym (kind .kind-of .ensures) ∙ arm .enum-told2 .given .1)))
+    rw (c .refuse3 .ensures) (sym (book-unknown _ _ _ (is-so (else .before .are-sound .ensures) (else .if1 .left)) _ f (sym (kind .kind-of .ensures) ∙ arm .enum-told2 .given .1)))
 
 same-length-7 : tie.Need-same-length-7
 same-length-7 c = search needs
@@ -149,7 +149,7 @@ returns-4 c =
     let else = judge .before in
     let g = sym (kind .kind-of .ensures) ∙ known .k .given .1 ∙ ap Known (arm .enum-told3 .given .1) in
     let f = sym (judge .judge-record .ensures) ∙ read .enum-told .given .1 in
-    call .book-order .ensures ∙ sym (book-known _ _ (is-so (else .before .is-sound .ensures) (else .if1 .left)) _ f Order g)
+    call .book-order .ensures ∙ sym (book-known _ _ _ (is-so (else .before .are-sound .ensures) (else .if1 .left)) _ f Order g)
 
 same-length-9 : tie.Need-same-length-9
 same-length-9 c = search needs
@@ -168,7 +168,7 @@ returns-5 c =
     let else = judge .before in
     let g = sym (kind .kind-of .ensures) ∙ known .k .given .1 ∙ ap Known (arm .enum-told4 .given .1) in
     let f = sym (judge .judge-record .ensures) ∙ read .enum-told .given .1 in
-    call .book-goods .ensures ∙ sym (book-known _ _ (is-so (else .before .is-sound .ensures) (else .if1 .left)) _ f Goods g)
+    call .book-goods .ensures ∙ sym (book-known _ _ _ (is-so (else .before .are-sound .ensures) (else .if1 .left)) _ f Goods g)
 
 same-length-11 : tie.Need-same-length-11
 same-length-11 c = search needs
@@ -186,7 +186,7 @@ returns-6 c =
     let else = judge .before in
     let g = sym (kind .kind-of .ensures) ∙ known .k .given .1 ∙ ap Known (arm .enum-told5 .given .1) in
     let f = sym (judge .judge-record .ensures) ∙ read .enum-told .given .1 in
-    rw (c .refuse4 .ensures) (sym (book-known _ _ (is-so (else .before .is-sound .ensures) (else .if1 .left)) _ f Closing g ∙ closing-so _ _))
+    rw (c .refuse4 .ensures) (sym (book-known _ _ _ (is-so (else .before .are-sound .ensures) (else .if1 .left)) _ f Closing g ∙ closing-so _ _ _))
 
 same-length-13 : tie.Need-same-length-13
 same-length-13 c = search needs
@@ -205,13 +205,13 @@ returns-7 c =
     let else = judge .before in
     let g = sym (kind .kind-of .ensures) ∙ known .k .given .1 ∙ ap Known (arm .enum-told6 .given .1) in
     let f = sym (judge .judge-record .ensures) ∙ read .enum-told .given .1 in
-    call .book-report .ensures ∙ sym (book-known _ _ (is-so (else .before .is-sound .ensures) (else .if1 .left)) _ f Report g)
+    call .book-report .ensures ∙ sym (book-known _ _ _ (is-so (else .before .are-sound .ensures) (else .if1 .left)) _ f Report g)
 
 pub book-spec : {M : Type 1} → statement M
 book-spec =
     tie.close
     (tie.spec
-    is-sound-requires
+    are-sound-requires
     refuse-requires
     same-length
     same-length-2

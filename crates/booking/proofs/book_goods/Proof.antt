@@ -24,7 +24,7 @@ enter-goods-requires c κs =
     let fits = c .before .before .before .before in
     let judge = fits .before .before in
     let start = judge .before .before .before .before .before .before .before in
-    let room = goods-room _ _ _ _ (start .pre .0) _ (sym (judge .judge-goods .ensures) ∙ fits .i .given .1) in
+    let room = goods-room _ _ _ _ _ (start .pre .0) _ (sym (judge .judge-goods .ensures) ∙ fits .i .given .1) in
     (start .pre .1, room .0, room .1, room .2, room .3)
 
 same-length : tie.Need-same-length
@@ -36,7 +36,7 @@ same-length-2 c = search needs
 returns : tie.Need-returns
 returns c =
     let arm = c .before .before in
-    rw (c .refuse .ensures) (sym (refused-so Goods _ _ _ (sym (arm .before .before .judge-goods .ensures) ∙ arm .r .given .1)))
+    rw (c .refuse .ensures) (sym (refused-so Goods _ _ _ _ (sym (arm .before .before .judge-goods .ensures) ∙ arm .r .given .1)))
 
 same-length-3 : tie.Need-same-length-3
 same-length-3 c = search needs
@@ -48,7 +48,7 @@ returns-2 : tie.Need-returns-2
 returns-2 c =
     let enter = c .before .before .before .before in
     let arm = enter .before .before .before .before .before in
-    enter .enter-goods .ensures ∙ sym (entered-so Goods _ _ _ (sym (arm .before .before .judge-goods .ensures) ∙ arm .i .given .1))
+    enter .enter-goods .ensures ∙ sym (entered-so Goods _ _ _ _ (sym (arm .before .before .judge-goods .ensures) ∙ arm .i .given .1))
 
 pub book-goods-spec : {M : Type 1} → statement M
 book-goods-spec =

@@ -24,7 +24,7 @@ enter-order-requires c κs =
     let fits = c .before .before .before in
     let judge = fits .before .before in
     let start = judge .before .before .before .before .before .before in
-    let room = order-room _ _ _ _ (start .pre .0) _ (sym (judge .judge-order .ensures) ∙ fits .i .given .1) in
+    let room = order-room _ _ _ _ _ (start .pre .0) _ (sym (judge .judge-order .ensures) ∙ fits .i .given .1) in
     (start .pre .1, room .0, room .1)
 
 same-length : tie.Need-same-length
@@ -33,7 +33,7 @@ same-length c = search needs
 returns : tie.Need-returns
 returns c =
     let arm = c .before .before in
-    rw (c .refuse .ensures) (sym (refused-so Order _ _ _ (sym (arm .before .before .judge-order .ensures) ∙ arm .r .given .1)))
+    rw (c .refuse .ensures) (sym (refused-so Order _ _ _ _ (sym (arm .before .before .judge-order .ensures) ∙ arm .r .given .1)))
 
 same-length-2 : tie.Need-same-length-2
 same-length-2 c = search needs
@@ -42,7 +42,7 @@ returns-2 : tie.Need-returns-2
 returns-2 c =
     let enter = c .before .before in
     let arm = enter .before .before .before .before in
-    enter .enter-order .ensures ∙ sym (entered-so Order _ _ _ (sym (arm .before .before .judge-order .ensures) ∙ arm .i .given .1))
+    enter .enter-order .ensures ∙ sym (entered-so Order _ _ _ _ (sym (arm .before .before .judge-order .ensures) ∙ arm .i .given .1))
 
 pub book-order-spec : {M : Type 1} → statement M
 book-order-spec =

@@ -24,7 +24,7 @@ enter-report-requires c κs =
     let fits = c .before .before in
     let judge = fits .before .before in
     let start = judge .before .before .before .before .before in
-    (start .pre .1, report-room _ _ _ _ (start .pre .0) _ (sym (judge .judge-report .ensures) ∙ fits .i .given .1))
+    (start .pre .1, report-room _ _ _ _ _ (start .pre .0) _ (sym (judge .judge-report .ensures) ∙ fits .i .given .1))
 
 same-length : tie.Need-same-length
 same-length c = search needs
@@ -32,7 +32,7 @@ same-length c = search needs
 returns : tie.Need-returns
 returns c =
     let arm = c .before .before in
-    rw (c .refuse .ensures) (sym (refused-so Report _ _ _ (sym (arm .before .before .judge-report .ensures) ∙ arm .r .given .1)))
+    rw (c .refuse .ensures) (sym (refused-so Report _ _ _ _ (sym (arm .before .before .judge-report .ensures) ∙ arm .r .given .1)))
 
 same-length-2 : tie.Need-same-length-2
 same-length-2 c = search needs
@@ -41,7 +41,7 @@ returns-2 : tie.Need-returns-2
 returns-2 c =
     let enter = c .before .before in
     let arm = enter .before .before .before in
-    enter .enter-report .ensures ∙ sym (entered-so Report _ _ _ (sym (arm .before .before .judge-report .ensures) ∙ arm .i .given .1))
+    enter .enter-report .ensures ∙ sym (entered-so Report _ _ _ _ (sym (arm .before .before .judge-report .ensures) ∙ arm .i .given .1))
 
 pub book-report-spec : {M : Type 1} → statement M
 book-report-spec =

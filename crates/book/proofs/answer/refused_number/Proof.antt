@@ -43,6 +43,12 @@ enum-told-10 c = search needs
 enum-told-11 : tie.Need-enum-told-11
 enum-told-11 c = search needs
 
+enum-told-12 : tie.Need-enum-told-12
+enum-told-12 c = search needs
+
+enum-told-13 : tie.Need-enum-told-13
+enum-told-13 c = search needs
+
 returns : tie.Need-returns
 unfolding refusedNumber
 returns c = rw (c .enum-told .given .1)
@@ -91,6 +97,14 @@ returns-12 : tie.Need-returns-12
 unfolding refusedNumber
 returns-12 c = rw (c .enum-told11 .given .1)
 
+returns-13 : tie.Need-returns-13
+unfolding refusedNumber
+returns-13 c = rw (c .enum-told12 .given .1)
+
+returns-14 : tie.Need-returns-14
+unfolding refusedNumber
+returns-14 c = rw (c .enum-told13 .given .1)
+
 pub refused-number-spec : {M : Type 1} → statement M
 refused-number-spec =
     tie.close
@@ -108,6 +122,8 @@ refused-number-spec =
     enum-told-9
     enum-told-10
     enum-told-11
+    enum-told-12
+    enum-told-13
     returns
     returns-2
     returns-3
@@ -119,4 +135,6 @@ refused-number-spec =
     returns-9
     returns-10
     returns-11
-    returns-12)
+    returns-12
+    returns-13
+    returns-14)

@@ -43,6 +43,12 @@ enum-told-10 c = search needs
 enum-told-11 : tie.Need-enum-told-11
 enum-told-11 c = search needs
 
+enum-told-12 : tie.Need-enum-told-12
+enum-told-12 c = search needs
+
+enum-told-13 : tie.Need-enum-told-13
+enum-told-13 c = search needs
+
 returns : tie.Need-returns
 unfolding refusedPlace
 returns c = rw (c .before .before .r .given .1, c .refusal-place .ensures)
@@ -91,6 +97,14 @@ returns-12 : tie.Need-returns-12
 unfolding refusedPlace
 returns-12 c = rw (c .enum-told11 .given .1)
 
+returns-13 : tie.Need-returns-13
+unfolding refusedPlace
+returns-13 c = rw (c .enum-told12 .given .1)
+
+returns-14 : tie.Need-returns-14
+unfolding refusedPlace
+returns-14 c = rw (c .enum-told13 .given .1)
+
 pub refused-place-spec : {M : Type 1} → statement M
 refused-place-spec =
     tie.close
@@ -108,6 +122,8 @@ refused-place-spec =
     enum-told-9
     enum-told-10
     enum-told-11
+    enum-told-12
+    enum-told-13
     returns
     returns-2
     returns-3
@@ -119,4 +135,6 @@ refused-place-spec =
     returns-9
     returns-10
     returns-11
-    returns-12)
+    returns-12
+    returns-13
+    returns-14)

@@ -3,10 +3,10 @@ use mathlib.Core.Path.{_≡_, _∙_, sym}
 use Prim.Native.Nat.{_≤_, _-_}
 use native.Mathlib.Omega.{arith}
 use native.Mathlib.Nat.{sub-zero}
+use Rattle.cells.specs.Search.{allFrom}
 use Rattle.cells.proofs.Bools.{is-not, is-so}
 use Rattle.entry.specs.Stored.{lineSound}
-use Rattle.book.specs.Lent.{allFrom}
-use Rattle.book.proofs.Searches.{all-here, all-next, all-end}
+use Rattle.cells.proofs.Searches.{all-here, all-next, all-end}
 use Rattle.book.proofs.seek.are_lines_sound.Statement.{statement}
 use Rattle.book.proofs.seek.are_lines_sound.Tie as tie
 

@@ -6,9 +6,9 @@ use Prim.Native.Nat.{ℕ, _≤_, _<_, _-_}
 use native.Mathlib.Omega.{arith}
 use native.Mathlib.Nat.{sub-zero}
 use borrow.Author.Tests.{lt-ltb, le-ltb}
+use Rattle.cells.specs.Search.{allFrom}
 use Rattle.entry.specs.Stored.{slipSound, slipLineAt}
-use Rattle.book.specs.Lent.{allFrom}
-use Rattle.book.proofs.Searches.{all-here, all-next, all-end}
+use Rattle.cells.proofs.Searches.{all-here, all-next, all-end}
 use Rattle.book.proofs.seek.are_slips_sound.Statement.{statement}
 use Rattle.book.proofs.seek.are_slips_sound.Tie as tie
 

@@ -8,10 +8,10 @@ use native.Mathlib.Nat.{sub-zero, mul-le-mul-left}
 use borrow.Author.Tests.{eq-eqb, ne-eqb}
 use lib.Dec.{eqb}
 use lib.ListN.{getD}
+use Rattle.cells.specs.Search.{allFrom}
 use Rattle.save.specs.Saved.{allOfKind}
 use borrow.Author.Needs.{needs}
-use Rattle.book.specs.Lent.{allFrom}
-use Rattle.book.proofs.Searches.{all-here, all-next, all-end}
+use Rattle.cells.proofs.Searches.{all-here, all-next, all-end}
 use Rattle.save.proofs.judge.are_of_kind.Statement.{statement}
 use Rattle.save.proofs.judge.are_of_kind.Tie as tie
 

@@ -7,10 +7,10 @@ use native.Mathlib.Omega.{arith}
 use native.Mathlib.Nat.{sub-zero}
 use lib.ListN.{length}
 use denote.Ref.{now}
+use Rattle.cells.specs.Search.{allFrom}
 use Rattle.cells.proofs.Bools.{is-not, is-so}
 use Rattle.entry.specs.Stored.{slipKeyWidth}
-use Rattle.book.specs.Lent.{allFrom}
-use Rattle.book.proofs.Searches.{all-here, all-next, all-end}
+use Rattle.cells.proofs.Searches.{all-here, all-next, all-end}
 use Rattle.save.specs.Entries.{slipKept, isFirst, slipsKept}
 use Rattle.save.specs.Saved.{savedLineWidth, savedSlipWidth, lineIn, slipIn}
 use Rattle.save.proofs.Bodies.{slip-long}

@@ -7,9 +7,9 @@ use native.Mathlib.Omega.{arith}
 use native.Mathlib.Nat.{sub-zero}
 use borrow.Author.Tests.{le-leb, lt-leb}
 use lib.Dec.{leb}
+use Rattle.cells.specs.Search.{allFrom}
 use Rattle.entry.specs.Stored.{mostArrived}
-use Rattle.book.specs.Lent.{allFrom}
-use Rattle.book.proofs.Searches.{all-here, all-next, all-end}
+use Rattle.cells.proofs.Searches.{all-here, all-next, all-end}
 use Rattle.save.specs.Entries.{arrivedOn, sumsKept}
 use Rattle.save.specs.Saved.{slipIn}
 use borrow.Author.Needs.{needs}
