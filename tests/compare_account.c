@@ -101,6 +101,19 @@ static void ask_every_length(struct dice *dice)
                              j <= LONGEST_QUALIFIER ? j : LONGER + IN_QUALIFIER);
 }
 
+/* An account of zeros, cut short: more often than there are kinds of bytes that can stand
+   behind it, so the zeros that would make it whole are among them. */
+static void ask_cut_short(struct dice *dice)
+{
+    enum { TIMES = 15 };
+    static const size_t lengths[][2] = {{10, 0}, {10, 1}, {9, 2}, {0, 2}, {11, 1}, {12, 0}};
+    static const uint8_t zeros[] = "000000000000";
+    for (size_t i = 0; i < sizeof lengths / sizeof lengths[0]; i++)
+        for (size_t time = 0; time < TIMES; time++)
+            ask_with_lengths(dice, zeros, lengths[i][0], lengths[i][1]);
+    came_up(ASKED_CUT_SHORT, 1);
+}
+
 /* A school that is one byte off, whichever, is another; the right one may follow. */
 static void ask_near(struct dice *dice)
 {
@@ -178,6 +191,7 @@ void compare_accounts(struct dice *dice)
 {
     ask_every_count(dice);
     ask_every_length(dice);
+    ask_cut_short(dice);
     for (size_t i = 0; i < 3; i++) {
         ask_near(dice);
         ask_across_entries(dice);

@@ -266,7 +266,8 @@ static void meet_without(struct dice *dice, const uint8_t *record, size_t length
     insist(without == (comes_before_24(listed) ? listed : 24),
            "24 stands just where no earlier answer does");
     came_up(UNREAD_NOT_LISTED, listed >= 1 && listed <= 10);
-    came_up(BOOKED_AFTER_24, without == 24 && listed == 0);
+    came_up(record[0] == 'B' ? ORDER_AFTER_24 : record[0] == 'L' ? DELIVERY_AFTER_24
+            : REPORT_AFTER_24, without == 24 && listed == 0);
 }
 
 /* The copies of an order that can be read; of any other record some number. */
@@ -297,7 +298,7 @@ static void meet_ceiling(struct dice *dice, const uint8_t *record, size_t length
         return;
     uint64_t listed = book_listed(dice, record, length, shelf);
     insist(listed == 0 || listed == 15, "25 stands where nothing earlier does");
-    came_up(BOOKED_AFTER_25, listed == 0);
+    came_up(ORDER_AFTER_25, listed == 0);
 }
 
 /* A record before a roster of wrong size. */
