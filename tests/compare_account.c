@@ -141,8 +141,7 @@ static void ask_across_entries(struct dice *dice)
     uint8_t account[IN_PARTY];
     pick_account(dice, account);
     for (size_t place = 1; place < IN_SCHOOL; place++) {
-        make_roster_without(dice, &roster, account, 2);
-        memcpy(roster.bytes + place, account, IN_PARTY);
+        make_roster_across(&roster, account, place);
         expect(ASKED_ACROSS_ENTRIES, 1, ask_account(&roster, account), 24);
     }
 }

@@ -217,8 +217,7 @@ static void meet_across_entries(struct dice *dice)
     pick_account(dice, account);
     make_full_book(dice, &shelf, account);
     for (size_t place = 1; place < IN_SCHOOL; place++) {
-        make_roster_without(dice, &roster, account, 2);
-        memcpy(roster.bytes + place, account, IN_PARTY);
+        make_roster_across(&roster, account, place);
         for (size_t i = 0; i < 3; i++)
             try_probe(dice, &probes[below(dice, PROBES)], &roster, &shelf, NOT_LISTED,
                       ACCOUNT_ACROSS_ENTRIES);

@@ -78,6 +78,19 @@ void make_roster(struct dice *dice, struct roster *roster, const uint8_t *accoun
     make_roster_of(dice, roster, account, ceiling, entries, below(dice, entries));
 }
 
+/* Two entries that differ from the account in every byte, but for its own bytes, which start
+   at a place where no entry does. */
+void make_roster_across(struct roster *roster, const uint8_t *account, size_t place)
+{
+    uint8_t other[IN_PARTY];
+    for (size_t i = 0; i < IN_PARTY; i++)
+        other[i] = (uint8_t)~account[i];
+    put_school(roster, 0, other, 0);
+    put_school(roster, 1, other, 0);
+    memcpy(roster->bytes + place, account, IN_PARTY);
+    roster->length = 2 * IN_SCHOOL;
+}
+
 /* Too many entries, or a part of one at the end; the account stands on it all the same. */
 void make_wrong_roster(struct dice *dice, struct roster *roster, const uint8_t *account)
 {

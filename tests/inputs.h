@@ -98,6 +98,7 @@ void make_roster_of(struct dice *dice, struct roster *roster, const uint8_t *acc
                     uint64_t ceiling, size_t entries, size_t place);
 void make_roster(struct dice *dice, struct roster *roster, const uint8_t *account,
                  uint64_t ceiling);
+void make_roster_across(struct roster *roster, const uint8_t *account, size_t place);
 void make_wrong_roster(struct dice *dice, struct roster *roster, const uint8_t *account);
 
 /* Books and saves. */
