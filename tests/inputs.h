@@ -6,7 +6,8 @@
 
 enum {
     /* widths of the documents, stated here a second time on purpose */
-    IN_ADDRESS = 10, IN_QUALIFIER = 2, IN_PARTY = 12, IN_KEY = 49, IN_LINE = 56, IN_SLIP_KEY = 46, IN_SLIP = 50,
+    IN_ADDRESS = 10, IN_QUALIFIER = 2, IN_PARTY = 12,
+    IN_KEY = 49, IN_LINE = 56, IN_SLIP_KEY = 46, IN_SLIP = 50,
     IN_SAVED_LINE = 53, IN_SAVED_SLIP = 51, IN_SAVED_END = 5,
     IN_SCHOOL = 16, IN_CEILING = 12, IN_MOST_SCHOOLS = 64,
     /* where the parts of a line, of a slip and of a delivery's fixed part start; in a save
