@@ -22,7 +22,8 @@ printf '\000\000\000\000\000' >wanted
 expect_same void.book wanted "a new book without a file"
 run void.book order.bwa
 expect_code 0 "a new book goes on"
-expect_silent "a new book goes on"
+echo "wizqamul-host: $(pwd -P)/void.book: no roster was named (--roster), so nothing is refused for a school or a ceiling" >wanted_err
+expect_text err wanted_err "a new book goes on"
 expect_same void.book.old wanted "a new book goes on"
 
 # --- the book before the last run is kept; a run that changes nothing keeps it too ---------------------
