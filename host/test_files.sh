@@ -159,6 +159,13 @@ wrong_use "option after the book" two.book --again four.bwa
 wrong_use "standard input twice" two.book - -
 wrong_use "standard input as the book" - four.bwa
 wrong_use "no name" "" four.bwa
+wrong_use "no roster behind the option" --roster
+wrong_use "no book behind the roster" --roster roster.txt
+wrong_use "an option as the roster" --roster --again two.book four.bwa
+wrong_use "standard input as the roster" --roster - two.book four.bwa
+wrong_use "no name of the roster" --roster "" two.book four.bwa
+wrong_use "two rosters" --roster roster.txt --roster roster.txt two.book four.bwa
+wrong_use "a roster behind the book" two.book --roster roster.txt four.bwa
 run two.book four.bwa absent.bwa
 expect_code 2 "missing file"
 expect_err "absent.bwa: cannot open: No such file or directory" "missing file"
