@@ -140,7 +140,7 @@ static void print_schools(const struct book *book)
     const uint8_t *accounts[WQ_MOST_SCHOOLS + WQ_MOST_LINES];
     size_t count = 0;
     for (size_t i = 0; i < book->roster->count; i++)
-        accounts[count++] = account_of(&book->roster->schools[i]);
+        accounts[count++] = school_account(&book->roster->schools[i]);
     for (size_t i = 0; i < book->used[WQ_USED_LINES]; i++)
         accounts[count++] = book->lines + i * WQ_LINE_WIDTH + WQ_LINE_SCHOOL;
     qsort(accounts, count, sizeof accounts[0], compare_accounts);

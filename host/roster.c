@@ -3,7 +3,6 @@
 #include "text.h"
 
 #include <inttypes.h>
-#include <stdlib.h>
 #include <string.h>
 
 #define UTF_8_MARK "\xEF\xBB\xBF"
@@ -173,7 +172,7 @@ static int take_line(const struct reading *reading, const struct part words[WORD
     return 0;
 }
 
-const uint8_t *account_of(const wq_school *school)
+const uint8_t *school_account(const wq_school *school)
 {
     return (const uint8_t *)school + WQ_SCHOOL_ADDRESS;
 }
@@ -182,7 +181,7 @@ const uint8_t *account_of(const wq_school *school)
 static size_t find(const struct roster *roster, const uint8_t *account)
 {
     size_t i = 0;
-    while (i < roster->count && memcmp(account_of(&roster->schools[i]), account,
+    while (i < roster->count && memcmp(school_account(&roster->schools[i]), account,
                                        ACCOUNT_WIDTH) != 0)
         i++;
     return i;
@@ -191,7 +190,7 @@ static size_t find(const struct roster *roster, const uint8_t *account)
 static void warn_of_repeated(const struct reading *reading, const wq_school *school, size_t first)
 {
     char account[ACCOUNT_ROOM], note[WORDS_ROOM];
-    text_with_qualifier(account_of(school), WQ_ADDRESS_WIDTH, account);
+    text_with_qualifier(school_account(school), WQ_ADDRESS_WIDTH, account);
     snprintf(note, sizeof note, "%s with ceiling %" PRIu32 " does not count, since it stands on "
              "line %lu already, with ceiling %" PRIu32, account, school->ceiling,
              reading->lines[first], reading->roster->schools[first].ceiling);
@@ -202,7 +201,7 @@ static void warn_of_repeated(const struct reading *reading, const wq_school *sch
 static void add(struct reading *reading, const wq_school *school)
 {
     struct roster *roster = reading->roster;
-    size_t first = find(roster, account_of(school));
+    size_t first = find(roster, school_account(school));
     if (first < roster->count) {
         warn_of_repeated(reading, school, first);
         roster->repeated++;
@@ -323,9 +322,9 @@ void roster_print_similar(FILE *to, const struct roster *roster, const char *bef
 {
     char text[ACCOUNT_ROOM];
     for (size_t i = 0; i < roster->count; i++) {
-        if (!is_similar(account_of(&roster->schools[i]), account))
+        if (!is_similar(school_account(&roster->schools[i]), account))
             continue;
-        text_with_qualifier(account_of(&roster->schools[i]), WQ_ADDRESS_WIDTH, text);
+        text_with_qualifier(school_account(&roster->schools[i]), WQ_ADDRESS_WIDTH, text);
         fprintf(to, "%s %s", before, text);
         before = ",";
     }

@@ -30,7 +30,7 @@ int roster_read(struct roster *roster, const char *name, const struct own_files 
 int roster_is_doubtful(const struct roster *roster);
 
 /* The account of an entry: its address, and its qualifier right behind. */
-const uint8_t *account_of(const wq_school *school);
+const uint8_t *school_account(const wq_school *school);
 
 /* The ceiling of an account, or answer 24. */
 wq_account_told roster_account(const struct roster *roster, const uint8_t account[ACCOUNT_WIDTH]);
