@@ -44,7 +44,7 @@ test: tools
 lib: $(LIBRARY)
 
 host: target/c/wizqamul-host
-	@echo "target/c/wizqamul-host [--new] [--accept-book] [--again] BOOK [FILE..]"
+	@echo "target/c/wizqamul-host [--new] [--accept-book] [--again] [--roster ROSTER] BOOK [FILE..]"
 
 # More than a million calls, given to the library and to the independent implementation.
 compare: target/c/compare

@@ -3,9 +3,30 @@
 
 #include <string.h>
 
-wq_booked book_record(struct book *book, const uint8_t *record, size_t length)
+/* A roster of the record's own school; gives its number of entries, none for a record that is
+   too short to name a school. */
+static size_t own_school(const struct record *record, wq_school *school)
 {
-    return wq_book(record, length, book->lines, sizeof book->lines, book->slips,
+    const uint8_t *account = record_school(record);
+    if (account == NULL)
+        return 0;
+    memcpy(school->address, account, WQ_ADDRESS_WIDTH);
+    memcpy(school->qualifier, account + WQ_ADDRESS_WIDTH, WQ_QUALIFIER_WIDTH);
+    school->ceiling = WQ_HIGHEST_CEILING;
+    return 1;
+}
+
+wq_booked book_record(struct book *book, const struct record *record)
+{
+    wq_school own;
+    const wq_school *schools = book->roster->schools;
+    size_t count = book->roster->count;
+    if (book->roster->name == NULL) {
+        schools = &own;
+        count = own_school(record, &own);
+    }
+    return wq_book(record->bytes, record->length, (const uint8_t *)schools,
+                   count * WQ_SCHOOL_WIDTH, book->lines, sizeof book->lines, book->slips,
                    sizeof book->slips, book->used);
 }
 
@@ -19,6 +40,17 @@ wq_booked book_line(const struct book *book, const uint8_t key[WQ_LINE_KEY_WIDTH
                    key + WQ_LINE_ARTICLE, WQ_ARTICLE_WIDTH,
                    key + WQ_LINE_ARTICLE_QUALIFIER, WQ_QUALIFIER_WIDTH,
                    book->lines, sizeof book->lines, book->slips, sizeof book->slips, book->used);
+}
+
+uint64_t book_open_copies(const struct book *book, const uint8_t account[ACCOUNT_WIDTH])
+{
+    uint64_t copies = 0;
+    for (size_t i = 0; i < book->used[WQ_USED_LINES]; i++) {
+        const uint8_t *line = book->lines + i * WQ_LINE_WIDTH;
+        if (memcmp(line + WQ_LINE_SCHOOL, account, ACCOUNT_WIDTH) == 0)
+            copies += book_line(book, line).still_open;
+    }
+    return copies;
 }
 
 const uint8_t *book_slip(const struct book *book, const uint8_t key[WQ_SLIP_KEY_WIDTH])

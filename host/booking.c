@@ -40,7 +40,7 @@ static struct tally book_records(struct booking *booking, struct book *book, str
     if (input_lacks_ends(input))
         complain(input->name, "there is no CR LF in this file, so it is taken as one record");
     while (input_next(input, &record)) {
-        wq_booked booked = book_record(book, record.bytes, record.length);
+        wq_booked booked = book_record(book, &record);
         unsigned long before = tally.refused;
         print_answer(stdout, input->name, ++number, &record, &booked, book);
         count_answer(&tally, booked.answer);
@@ -70,12 +70,12 @@ static int book_one(struct booking *booking, struct book_file *file, struct book
                     struct input *input, struct saved *saved)
 {
     char from[DIGEST_ROOM];
-    struct tally tally = book_records(booking, book, input);
+    struct logged_file logged = {input->name, input->digest, book->roster->digest, {0, 0, 0}};
+    logged.tally = book_records(booking, book, input);
     strcpy(from, saved->digest);
-    add_tally(&booking->all, &tally);
+    add_tally(&booking->all, &logged.tally);
     return book_file_save_bytes(file, book, saved) &&
-           history_add_file(&file->history, from, saved->digest, input->digest, &tally,
-                            input->name);
+           history_add_file(&file->history, from, saved->digest, &logged);
 }
 
 int booking_run(struct booking *booking, struct book_file *file, struct book *book,
@@ -86,6 +86,9 @@ int booking_run(struct booking *booking, struct book_file *file, struct book *bo
         complain_system("memory", "cannot keep the refused records");
         return 0;
     }
+    if (count > 0 && book->roster->name == NULL)
+        complain(file->files.paths[OWN_BOOK], "no roster was named (--roster), so nothing is "
+                 "refused for a school or a ceiling");
     *saved = file->loaded;
     for (int i = 0; i < count; i++)
         if (!is_left_out(booking, file, saved, &inputs[i]) &&

@@ -244,14 +244,16 @@ int history_add_accepted(struct history *history, const char *to)
 }
 
 int history_add_file(struct history *history, const char *from, const char *to,
-                     const char *file, const struct tally *tally, const char *name)
+                     const struct logged_file *file)
 {
     struct addition addition;
+    const struct tally *tally = &file->tally;
     if (!begin_entry(&addition, history, from, to))
         return 0;
-    fprintf(addition.stream, "file %s, %lu booked, %lu with nothing to book, %lu refused: ",
-            file, tally->booked, tally->no_need, tally->refused);
-    print_name(addition.stream, name);
+    fprintf(addition.stream, "file %s, %lu booked, %lu with nothing to book, %lu refused, %s%.*s: ",
+            file->digest, tally->booked, tally->no_need, tally->refused,
+            file->roster[0] == '\0' ? "no roster" : "roster ", SHORT_DIGITS, file->roster);
+    print_name(addition.stream, file->name);
     fputc('\n', addition.stream);
     return end(&addition, &history->log);
 }

@@ -3,9 +3,11 @@
  * BOOK.digests has a line for each book that was about to be saved: its digest, and when.
  * BOOK.log has a line for each file that was booked:
  *
- *   WHEN from BOOK to BOOK: file DIGEST, N booked, N with nothing to book, N refused: NAME
+ *   WHEN from BOOK to BOOK: file DIGEST, N booked, N with nothing to book, N refused,
+ *   roster ROSTER: NAME
  *
- * with the first digits of the digests of the books before and after it. So the lines form a
+ * all in one line, with the first digits of the digests of the books before and after it and
+ * of the roster that its records met (`no roster` where none was named). So the lines form a
  * trail that leads back from the book at hand, and a line that is not on the trail tells of
  * a book that is not this one: its run broke off before the book was in place, or an older
  * book was put back. Such a line does not count. A trail begins with `from new` for a new
@@ -23,6 +25,12 @@ struct history {
 
 /* What became of a file's records. */
 struct tally { unsigned long booked, no_need, refused; };
+
+/* A file as the log tells of it; the digest of its roster is empty where there was none. */
+struct logged_file {
+    const char *name, *digest, *roster;
+    struct tally tally;
+};
 
 /* Reads both files; returns 0, and has said why, where one cannot be read or is not ours. */
 int history_read(struct history *history, const struct own_files *files);
@@ -42,7 +50,7 @@ int history_add_digest(struct history *history, const char *digest);
 int history_add_new(struct history *history, const char *to);
 int history_add_accepted(struct history *history, const char *to);
 int history_add_file(struct history *history, const char *from, const char *to,
-                     const char *file, const struct tally *tally, const char *name);
+                     const struct logged_file *file);
 
 /* Writes the texts as new files that wait to take their names; the log only where something
    was added. */

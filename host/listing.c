@@ -7,8 +7,6 @@
 #include <stdlib.h>
 #include <string.h>
 
-enum { SCHOOL_WIDTH = WQ_ADDRESS_WIDTH + WQ_QUALIFIER_WIDTH };
-
 /* Letters of a row before its figures: supplier, reference and article, or one note. */
 enum { SUPPLIER_LETTERS = 14, REFERENCE_LETTERS = 12, ARTICLE_LETTERS = 16,
        NOTE_LETTERS = SUPPLIER_LETTERS + REFERENCE_LETTERS + ARTICLE_LETTERS };
@@ -46,15 +44,6 @@ static const char *mark_of(const uint8_t *line)
     }
 }
 
-/* A field and its qualifier behind it. */
-static void with_qualifier(const uint8_t *field, size_t width, char text[2 * TEXT_ROOM])
-{
-    char first[TEXT_ROOM], second[TEXT_ROOM];
-    text_of(field, width, first);
-    text_of(field + width, WQ_QUALIFIER_WIDTH, second);
-    sprintf(text, "%s %s", first, second);
-}
-
 /* The beginning of a row. */
 static void print_who(const char *supplier, const char *reference, const char *article)
 {
@@ -66,10 +55,10 @@ static void print_who(const char *supplier, const char *reference, const char *a
 
 static void print_line(const uint8_t *line, const wq_booked *figures)
 {
-    char supplier[2 * TEXT_ROOM], reference[TEXT_ROOM], article[2 * TEXT_ROOM];
-    with_qualifier(line + WQ_LINE_SUPPLIER, WQ_ADDRESS_WIDTH, supplier);
+    char supplier[ACCOUNT_ROOM], reference[TEXT_ROOM], article[ACCOUNT_ROOM];
+    text_with_qualifier(line + WQ_LINE_SUPPLIER, WQ_ADDRESS_WIDTH, supplier);
     text_of(line + WQ_LINE_REFERENCE, WQ_REFERENCE_WIDTH, reference);
-    with_qualifier(line + WQ_LINE_ARTICLE, WQ_ARTICLE_WIDTH, article);
+    text_with_qualifier(line + WQ_LINE_ARTICLE, WQ_ARTICLE_WIDTH, article);
     print_who(supplier, reference, article);
     printf(FIGURES_FORMAT, figures->ordered, figures->filled, figures->still_open,
            mark_of(line), figures->let_go, figures->extra);
@@ -88,8 +77,8 @@ static void print_sums(const char *what, const struct sums *sums)
 
 static void print_head(const uint8_t *line)
 {
-    char school[2 * TEXT_ROOM];
-    with_qualifier(line + WQ_LINE_SCHOOL, WQ_ADDRESS_WIDTH, school);
+    char school[ACCOUNT_ROOM];
+    text_with_qualifier(line + WQ_LINE_SCHOOL, WQ_ADDRESS_WIDTH, school);
     printf("\nSchool %s\n", school);
     print_who("supplier", "reference", "article");
     printf(" %8s %8s %8s %5s %8s %8s\n", "ordered", "filled", "open", "mark", "let go", "extra");
@@ -102,7 +91,7 @@ static size_t print_school(const struct book *book, const uint8_t *const *sorted
     struct sums total = {0, 0, 0, 0, 0, 0}, complete = {0, 0, 0, 0, 0, 0};
     size_t i;
     print_head(sorted[0]);
-    for (i = 0; i < count && memcmp(sorted[i], sorted[0], SCHOOL_WIDTH) == 0; i++) {
+    for (i = 0; i < count && memcmp(sorted[i], sorted[0], ACCOUNT_WIDTH) == 0; i++) {
         wq_booked figures = book_line(book, sorted[i]);
         add(&total, &figures);
         add(all, &figures);
@@ -115,6 +104,58 @@ static size_t print_school(const struct book *book, const uint8_t *const *sorted
         print_sums("complete", &complete);
     print_sums("total", &total);
     return i;
+}
+
+static int compare_accounts(const void *one, const void *other)
+{
+    const uint8_t *const *first = one, *const *second = other;
+    return memcmp(*first, *second, ACCOUNT_WIDTH);
+}
+
+/* A row of the schools' table. What somebody should see stands in capitals. */
+static void print_against_ceiling(const struct book *book, const uint8_t *account)
+{
+    wq_account_told told = roster_account(book->roster, account);
+    uint64_t copies = book_open_copies(book, account);
+    char school[ACCOUNT_ROOM];
+    text_with_qualifier(account, WQ_ADDRESS_WIDTH, school);
+    printf("  ");
+    print_padded(school, SUPPLIER_LETTERS);
+    if (told.answer != WQ_DONE) {
+        printf(" %10" PRIu64 " %10s  NOT ON THE ROSTER\n", copies, "-");
+        return;
+    }
+    printf(" %10" PRIu64 " %10" PRIu64, copies, told.ceiling);
+    if (copies > told.ceiling)
+        printf("  OVER BY %" PRIu64 "\n", copies - told.ceiling);
+    else if (copies == told.ceiling)
+        printf("  FULL\n");
+    else
+        printf("  %" PRIu64 " left\n", told.ceiling - copies);
+}
+
+/* The schools of the roster and those of the book, with open copies against ceilings. */
+static void print_schools(const struct book *book)
+{
+    const uint8_t *accounts[WQ_MOST_SCHOOLS + WQ_MOST_LINES];
+    size_t count = 0;
+    for (size_t i = 0; i < book->roster->count; i++)
+        accounts[count++] = school_account(&book->roster->schools[i]);
+    for (size_t i = 0; i < book->used[WQ_USED_LINES]; i++)
+        accounts[count++] = book->lines + i * WQ_LINE_WIDTH + WQ_LINE_SCHOOL;
+    qsort(accounts, count, sizeof accounts[0], compare_accounts);
+    printf("\nOpen copies against the ceilings of ");
+    print_name(stdout, book->roster->name);
+    printf("\n  ");
+    print_padded("school", SUPPLIER_LETTERS);
+    printf(" %10s %10s\n", "open", "ceiling");
+    for (size_t i = 0; i < count; i++)
+        if (i == 0 || memcmp(accounts[i - 1], accounts[i], ACCOUNT_WIDTH) != 0)
+            print_against_ceiling(book, accounts[i]);
+    printf("  on the roster: %zu of %d schools", book->roster->count, WQ_MOST_SCHOOLS);
+    if (book->roster->repeated > 0)
+        printf("; lines that do not count: %lu", book->roster->repeated);
+    printf("\n");
 }
 
 void print_listing(const struct book *book)
@@ -132,6 +173,8 @@ void print_listing(const struct book *book)
     print_sums("total", &all);
     printf("  used: %zu of %d lines, %zu of %d slips\n", count, WQ_MOST_LINES,
            book->used[WQ_USED_SLIPS], WQ_MOST_SLIPS);
+    if (book->roster->name != NULL)
+        print_schools(book);
 }
 
 /* One room: how much of it is used, of how many, and what it holds. */

@@ -5,17 +5,20 @@
  *
  * BOOK is a file that holds a saved book. `-` as FILE is standard input. Nothing is booked
  * unless every FILE was read to its end, and nothing is saved unless every answer was printed.
- * A FILE whose bytes were booked into this book before is named and left out.
+ * A FILE whose bytes were booked into this book before is named and left out. Every record
+ * meets the roster; without one the program says so, and refuses nothing for it.
  *
  * Options, before BOOK:
- *   --new           makes a new book, with or without a FILE; there must be none yet
- *   --accept-book   takes a book that was not saved here as it stands, now and from now on
- *   --again         books a FILE whose bytes were booked before
+ *   --new             makes a new book, with or without a FILE; there must be none yet
+ *   --accept-book     takes a book that was not saved here as it stands, now and from now on
+ *   --again           books a FILE whose bytes were booked before
+ *   --roster ROSTER   books for the schools of this file alone (see roster.h), up to their
+ *                     ceilings, and lists open copies against them
  *
  * Exit codes:
  *   0  done; each record was booked, or needs no booking (answers 13 and 17)
- *   1  done and saved, but somebody should look: a record was refused, or a FILE left out
- *      since it was booked before
+ *   1  done and saved, but somebody should look: a record was refused, a FILE left out since
+ *      it was booked before, or the roster names an account twice or no school at all
  *   2  wrong use, or trouble with a file; the book stands as it was before the run
  *   3  the book is saved, but what comes after that went wrong (see standard error)
  *
@@ -35,12 +38,13 @@
 #include <string.h>
 #include <unistd.h>
 
-enum exit_code { ALL_BOOKED = 0, SOME_REFUSED = 1, NOT_SAVED = 2, TROUBLE_AFTER_SAVE = 3 };
+enum exit_code { ALL_BOOKED = 0, WORTH_A_LOOK = 1, NOT_SAVED = 2, TROUBLE_AFTER_SAVE = 3 };
 
 /* What was asked for. */
 struct request {
     struct wishes wishes;
     int again;
+    char *roster;           /* the file, or NULL */
     char *book;
     char **names;           /* the FILEs */
     int count;
@@ -48,14 +52,18 @@ struct request {
 
 static int usage(void)
 {
-    fprintf(stderr, "usage: " PROGRAM " [--new] [--accept-book] [--again] BOOK [FILE..]\n"
+    fprintf(stderr, "usage: " PROGRAM " [--new] [--accept-book] [--again] [--roster ROSTER] "
+            "BOOK [FILE..]\n"
             "Books the records of each FILE (- is standard input) into BOOK, saves it,\n"
             "and lists what is still open for each school.\n"
-            "  --new          make a new book\n"
-            "  --accept-book  take a book that was not saved here as it stands\n"
-            "  --again        book a FILE whose bytes were booked before\n"
-            "Exit codes: 0 done, 1 done but some records refused or a FILE left out,\n"
-            "2 nothing saved, 3 saved, but trouble after that.\n");
+            "  --new            make a new book\n"
+            "  --accept-book    take a book that was not saved here as it stands\n"
+            "  --again          book a FILE whose bytes were booked before\n"
+            "  --roster ROSTER  book for the schools of this file alone, up to their ceilings,\n"
+            "                   and list open copies against them; one school a line:\n"
+            "                   43210 VD 500 (address, qualifier, ceiling), # starts a comment\n"
+            "Exit codes: 0 done, 1 done but some records refused, a FILE left out or the roster\n"
+            "doubtful, 2 nothing saved, 3 saved, but trouble after that.\n");
     return NOT_SAVED;
 }
 
@@ -76,8 +84,15 @@ static int streams_are_open(void)
     return all;
 }
 
-/* Sets what an option asks for; 0 where there is no such option. */
-static int take_option(struct request *request, const char *option)
+/* Whether an argument can be the name of the book or of a roster. */
+static int is_name(const char *argument)
+{
+    return argument[0] != '-' && argument[0] != '\0';
+}
+
+/* Sets what the option at the front of `left` arguments asks for; gives how many arguments it
+   takes, 0 where there is no such option. */
+static int take_option(struct request *request, char **arguments, int left)
 {
     const struct { const char *name; int *wish; } options[] = {
         {"--new", &request->wishes.make_new},
@@ -85,9 +100,13 @@ static int take_option(struct request *request, const char *option)
         {"--again", &request->again}
     };
     for (size_t i = 0; i < sizeof options / sizeof options[0]; i++)
-        if (strcmp(option, options[i].name) == 0)
+        if (strcmp(arguments[0], options[i].name) == 0)
             return *options[i].wish = 1;
-    return 0;
+    if (strcmp(arguments[0], "--roster") != 0 || request->roster != NULL || left < 2 ||
+        !is_name(arguments[1]))
+        return 0;
+    request->roster = arguments[1];
+    return 2;
 }
 
 /* The arguments: options, a book, and files, standard input at most once among them. */
@@ -95,10 +114,13 @@ static int take_arguments(struct request *request, int count, char **arguments)
 {
     int at = 1, dashes = 0;
     memset(request, 0, sizeof *request);
-    while (at < count && strncmp(arguments[at], "--", 2) == 0)
-        if (!take_option(request, arguments[at++]))
+    while (at < count && strncmp(arguments[at], "--", 2) == 0) {
+        int taken = take_option(request, arguments + at, count - at);
+        if (taken == 0)
             return 0;
-    if (at == count || arguments[at][0] == '-' || arguments[at][0] == '\0')
+        at += taken;
+    }
+    if (at == count || !is_name(arguments[at]))
         return 0;
     request->book = arguments[at++];
     request->names = arguments + at;
@@ -155,6 +177,13 @@ static int read_all(struct input *inputs, const struct request *request,
     return done;
 }
 
+/* The exit code of a run in which nothing failed. */
+static enum exit_code code_of(const struct booking *booking, const struct roster *roster)
+{
+    return booking->all.refused + booking->left_out > 0 || roster_is_doubtful(roster)
+           ? WORTH_A_LOOK : ALL_BOOKED;
+}
+
 /* Locks and loads the book, books all files, saves. */
 static enum exit_code book_all(struct book_file *file, struct book *book, struct input *inputs,
                                int count, struct booking *booking)
@@ -170,7 +199,7 @@ static enum exit_code book_all(struct book_file *file, struct book *book, struct
     booking_print_tally(booking);
     if (taken == TAKE_UNCERTAIN)
         return TROUBLE_AFTER_SAVE;
-    return booking->all.refused + booking->left_out > 0 ? SOME_REFUSED : ALL_BOOKED;
+    return code_of(booking, book->roster);
 }
 
 /* The last word of a run that failed, on both streams. */
@@ -186,15 +215,16 @@ static enum exit_code end_unsaved(const struct book_file *file)
 
 /* The run with the book's names found and all files read. */
 static enum exit_code run(struct book_file *file, struct input *inputs,
-                          const struct request *request)
+                          const struct request *request, const struct roster *roster)
 {
     static struct book book;
     struct booking booking = {request->again, {0, 0, 0}, 0, NULL, NULL, 0};
     enum exit_code code;
+    book.roster = roster;
     if (file->wishes.write)
         code = book_all(file, &book, inputs, request->count, &booking);
     else
-        code = book_file_load(file, &book) ? ALL_BOOKED : NOT_SAVED;
+        code = book_file_load(file, &book) ? code_of(&booking, roster) : NOT_SAVED;
     if (code == NOT_SAVED) {
         booking_leave(&booking);
         return end_unsaved(file);
@@ -211,7 +241,8 @@ static enum exit_code run(struct book_file *file, struct input *inputs,
 }
 
 /* Reads the files and runs. */
-static enum exit_code read_and_run(struct book_file *file, const struct request *request)
+static enum exit_code read_and_run(struct book_file *file, const struct request *request,
+                                   const struct roster *roster)
 {
     struct input *inputs = calloc((size_t)request->count + 1, sizeof *inputs);
     enum exit_code code = NOT_SAVED;
@@ -222,13 +253,23 @@ static enum exit_code read_and_run(struct book_file *file, const struct request 
     }
     count = read_all(inputs, request, &file->files);
     if (count == request->count)
-        code = run(file, inputs, request);
+        code = run(file, inputs, request, roster);
     else
         complain(request->book, "nothing was booked, since not every file could be read");
     for (int i = 0; i < request->count; i++)
         input_leave(&inputs[i]);
     free(inputs);
     return code;
+}
+
+/* The roster comes first: where it is wrong, nothing else is done. */
+static enum exit_code run_with_roster(struct book_file *file, const struct request *request)
+{
+    static struct roster roster;
+    if (request->roster == NULL || roster_read(&roster, request->roster, &file->files))
+        return read_and_run(file, request, &roster);
+    complain(request->book, "nothing was done, since the roster cannot be used");
+    return NOT_SAVED;
 }
 
 int main(int argument_count, char **arguments)
@@ -244,7 +285,7 @@ int main(int argument_count, char **arguments)
     signal(SIGXFSZ, SIG_IGN);       /* and not the end of the program */
     if (book_file_find(&file, request.book, &request.wishes) &&
         streams_are_others(&file.files, request.book))
-        code = read_and_run(&file, &request);
+        code = run_with_roster(&file, &request);
     book_file_leave(&file);
     return code;
 }

@@ -28,7 +28,7 @@ static int judge_input(const char *name, int from, const struct own_files *own)
     mine = own_files_which(own, &status);
     if (mine == NULL)
         return 1;
-    complain(name, "this is the book or a file that belongs to it, and no file of records:");
+    complain(name, "this is the book or a file that belongs to it, so it is not read:");
     complain(mine, "is the same file");
     return 0;
 }
@@ -92,4 +92,12 @@ int input_lacks_ends(const struct input *input)
 void input_leave(struct input *input)
 {
     free(input->bytes.start);
+}
+
+const uint8_t *record_school(const struct record *record)
+{
+    size_t place = WQ_KIND_WIDTH;
+    if (record->length == 0 || record->bytes[0] != WQ_KIND_ORDER[0])
+        place += ACCOUNT_WIDTH;
+    return record->length < place + ACCOUNT_WIDTH ? NULL : record->bytes + place;
 }

@@ -4,6 +4,7 @@
 
 #include "digest.h"
 #include "own_files.h"
+#include "wizqamul.h"
 
 /* A file that was read whole, and how far it was cut into records. */
 struct input {
@@ -18,6 +19,9 @@ struct record {
     const uint8_t *bytes;
     size_t length;
 };
+
+/* An account: an address and the qualifier behind it. */
+enum { ACCOUNT_WIDTH = WQ_ADDRESS_WIDTH + WQ_QUALIFIER_WIDTH };
 
 /* All files of a run together hold at most this many bytes. */
 enum { MOST_INPUT = 1 << 26 };
@@ -34,5 +38,9 @@ int input_next(struct input *input, struct record *record);
 int input_lacks_ends(const struct input *input);
 
 void input_leave(struct input *input);
+
+/* The account of the school in a record of known kind: the sender of an order, else the
+   recipient. NULL where the record is too short to have one. */
+const uint8_t *record_school(const struct record *record);
 
 #endif

@@ -7,7 +7,9 @@ fi
 # The calls at which something is injected; a ? lets a machine lack one.
 calls='openat,read,write,close,fsync,fcntl,fchmod,fchown,?rename,renameat,?renameat2,?fstat,?newfstatat,?stat,?lstat,?access,faccessat,?faccessat2,?readlink,readlinkat,?unlink,unlinkat'
 
-# Runs the program on b in a fresh copy of the directory `calm`, with something injected.
+# Runs the program on b in a fresh copy of the directory `calm`, with something injected. The
+# run has a roster, so that errors of reading it are injected too; without one it would say so
+# on standard error, where an error is not noticed.
 start_afresh() { rm -rf fault && cp -rp calm fault; }
 run_injected() {    # what is injected; then the arguments
     inject=$1
@@ -75,7 +77,7 @@ inject_all() {
     while read -r name number must fresh lock; do
         at="$name number $number"
         start_afresh
-        run_injected "$name:error=EIO:when=$number" b five.bwa
+        run_injected "$name:error=EIO:when=$number" --roster roster b five.bwa
         expect_whole "error at $at"
         [ $must = may ] || [ $code -ge 2 ] || fail "error at $at: it goes unnoticed"
         case $name in unlink*) ;; *) expect_tidy fault "error at $at" ;; esac
@@ -83,7 +85,7 @@ inject_all() {
         pass
         case $name in openat | write | close | fsync | fchmod | rename* | unlink*)
             start_afresh
-            run_injected "$name:signal=SIGKILL:when=$number" b five.bwa
+            run_injected "$name:signal=SIGKILL:when=$number" --roster roster b five.bwa
             [ $code -eq 137 ] || fail "killed at $at: exit code $code"
             expect_whole "killed at $at"
             expect_next "killed at $at"
@@ -91,20 +93,20 @@ inject_all() {
         esac
         case $name,$must,$fresh in read,must,* | write,*,fresh)
             start_afresh
-            run_injected "$name:error=EINTR:when=$number" b five.bwa
+            run_injected "$name:error=EINTR:when=$number" --roster roster b five.bwa
             [ $code -eq 0 ] || fail "$at interrupted: exit code $code"
             expect_whole "$at interrupted"
             pass ;;
         esac
         case $name,$fresh in fsync,other)      # a file system that cannot do it for a directory
             start_afresh
-            run_injected "$name:error=EINVAL:when=$number" b five.bwa
+            run_injected "$name:error=EINVAL:when=$number" --roster roster b five.bwa
             expect_code 0 "a directory that cannot be synced"
             expect_whole "a directory that cannot be synced" ;;
         esac
         case $name,$fresh in write,fresh)
             start_afresh
-            run_injected "$name:retval=0:when=$number" b five.bwa
+            run_injected "$name:retval=0:when=$number" --roster roster b five.bwa
             expect_code 2 "$at writes nothing"
             expect_whole "$at writes nothing" ;;
         esac
@@ -136,11 +138,11 @@ inject_new() {
 inject_answers() {
     start_afresh
     cp many.bwa fault
-    run_injected "" b many.bwa
+    run_injected "" --roster roster b many.bwa
     first=$(list_points | awk '$1 == "write" { print $2; exit }')
     start_afresh
     cp many.bwa fault
-    run_injected "write:error=ENOSPC:when=$first" b many.bwa
+    run_injected "write:error=ENOSPC:when=$first" --roster roster b many.bwa
     expect_code 2 "a part of the answers cannot be printed"
     expect_err "standard output: " "a part of the answers cannot be printed"
     expect_same fault/b calm/b "a part of the answers cannot be printed"
@@ -166,7 +168,7 @@ go_on() { kill -CONT "$stopped"; wait $child; code=$?; child=; }
 two_at_once() {
     # A run that waits before it has the lock must see what another run has saved meanwhile.
     start_afresh
-    start_stopped $(awk '$1 == "openat" && $5 == "lock" { print $1, $2; exit }' points) b five.bwa
+    start_stopped $(awk '$1 == "openat" && $5 == "lock" { print $1, $2; exit }' points) --roster roster b five.bwa
     run fault/b fault/six.bwa
     expect_code 0 "a run while another has no lock yet"
     go_on
@@ -175,7 +177,7 @@ two_at_once() {
     expect_out "used: 5 of 512 lines, 5 of 1024 slips" "two runs, one after the other"
     # The lock is held until the book is in place.
     start_afresh
-    start_stopped $(awk '$1 == "fsync" { last = this; this = $1 " " $2 } END { print last }' points) b five.bwa
+    start_stopped $(awk '$1 == "fsync" { last = this; this = $1 " " $2 } END { print last }' points) --roster roster b five.bwa
     run fault/b fault/six.bwa
     expect_code 2 "a run while another saves"
     expect_err "another run" "a run while another saves"
@@ -188,13 +190,14 @@ if strace -f -o /dev/null -e trace=getppid -e inject=getppid:error=EIO true 2>/d
     mkdir calm
     copy_book kept.book calm/b
     cp five.bwa calm
+    echo "43210 VD 600" >calm/roster
     put "$(delivery 0006 0001)" >calm/six.bwa
     chmod 600 calm/b*
     state_of calm >calm.state
     copy_book calm/b want.book
     run want.book five.bwa
     start_afresh
-    run_injected "" b five.bwa
+    run_injected "" --roster roster b five.bwa
     expect_code 0 "a traced run"
     expect_whole "a traced run"
     list_points >points

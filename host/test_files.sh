@@ -22,7 +22,8 @@ printf '\000\000\000\000\000' >wanted
 expect_same void.book wanted "a new book without a file"
 run void.book order.bwa
 expect_code 0 "a new book goes on"
-expect_silent "a new book goes on"
+echo "wizqamul-host: $(pwd -P)/void.book: no roster was named (--roster), so nothing is refused for a school or a ceiling" >wanted_err
+expect_text err wanted_err "a new book goes on"
 expect_same void.book.old wanted "a new book goes on"
 
 # --- the book before the last run is kept; a run that changes nothing keeps it too ---------------------
@@ -158,6 +159,13 @@ wrong_use "option after the book" two.book --again four.bwa
 wrong_use "standard input twice" two.book - -
 wrong_use "standard input as the book" - four.bwa
 wrong_use "no name" "" four.bwa
+wrong_use "no roster behind the option" --roster
+wrong_use "no book behind the roster" --roster roster.txt
+wrong_use "an option as the roster" --roster --again two.book four.bwa
+wrong_use "standard input as the roster" --roster - two.book four.bwa
+wrong_use "no name of the roster" --roster "" two.book four.bwa
+wrong_use "two rosters" --roster roster.txt --roster roster.txt two.book four.bwa
+wrong_use "a roster behind the book" two.book --roster roster.txt four.bwa
 run two.book four.bwa absent.bwa
 expect_code 2 "missing file"
 expect_err "absent.bwa: cannot open: No such file or directory" "missing file"

@@ -10,12 +10,12 @@ run --new digest.book
 for length in $lengths; do
     printf "%${length}s" '' | tr ' ' 'x' >"length$length"
     run digest.book "length$length"
-    grep -q " file $(digest "length$length"), 0 booked, 0 with nothing to book, [01] refused: length$length\$" digest.book.log ||
+    grep -q " file $(digest "length$length"), 0 booked, 0 with nothing to book, [01] refused, no roster: length$length\$" digest.book.log ||
         fail "digest of a file of $length bytes: not in the log"
     pass
 done
 copy_book day.book log.book
-grep -q "^20..-..-..T..:..:..Z from $(printf '\0\0\0\0\0' | sha256sum | cut -c 1-16) to $(digest day.book | cut -c 1-16): file $(digest day.bwa), 14 booked, 3 with nothing to book, 9 refused: day.bwa\$" log.book.log ||
+grep -q "^20..-..-..T..:..:..Z from $(printf '\0\0\0\0\0' | sha256sum | cut -c 1-16) to $(digest day.book | cut -c 1-16): file $(digest day.bwa), 14 booked, 3 with nothing to book, 9 refused, no roster: day.bwa\$" log.book.log ||
     fail "log: no line of the day"
 pass
 

@@ -39,7 +39,7 @@ name_is() {     # the name, as it is shown
     cp first.book name.book
     run --accept-book name.book "$1"
     expect_out "$2:1 ? 2" "name $2"
-    grep -qF " 1 refused: $2" name.book.log || fail "name $2: not in the log"
+    grep -qF " 1 refused, no roster: $2" name.book.log || fail "name $2: not in the log"
     rm -f "$1" name.book*
 }
 name_is "$(printf 'a\033[2Jb')" 'a\x1B[2Jb'

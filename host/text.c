@@ -46,6 +46,14 @@ void text_of(const uint8_t *field, size_t width, char text[TEXT_ROOM])
         text += byte_as_text(field[i], text);
 }
 
+void text_with_qualifier(const uint8_t *field, size_t width, char text[ACCOUNT_ROOM])
+{
+    char qualifier[TEXT_ROOM];
+    text_of(field, width, text);
+    text_of(field + width, WQ_QUALIFIER_WIDTH, qualifier);
+    sprintf(text + strlen(text), " %s", qualifier);
+}
+
 void print_padded(const char *text, size_t letters)
 {
     size_t shown = 0;

@@ -15,6 +15,10 @@ enum { TEXT_ROOM = 4 * WQ_ARTICLE_WIDTH + 1 };
    shown as UTF-8; a backslash, and bytes that are no sign at all, are shown as \xNN. */
 void text_of(const uint8_t *field, size_t width, char text[TEXT_ROOM]);
 
+/* A field and its qualifier, which stands right behind it. */
+enum { ACCOUNT_ROOM = 2 * TEXT_ROOM };
+void text_with_qualifier(const uint8_t *field, size_t width, char text[ACCOUNT_ROOM]);
+
 /* Prints a text and blanks behind it up to a number of letters. */
 void print_padded(const char *text, size_t letters);
 

@@ -6,9 +6,10 @@
 #include <string.h>
 
 enum {
-    LAST_ANSWER = WQ_TOO_SMALL,
+    LAST_ANSWER = WQ_CEILING_PASSED,
     QUANTITY_WIDTH = 4,
-    ORDER_REFERENCE = 36        /* where the reference stands in a B101 */
+    ORDER_REFERENCE = 36,       /* where the reference stands in a B101 */
+    ORDER_QUANTITY = 61
 };
 
 static const char *const answer_words[LAST_ANSWER + 1] = {
@@ -35,7 +36,9 @@ static const char *const answer_words[LAST_ANSWER + 1] = {
     "the book is unsound",
     "more than 9999999 copies on one line",
     "the saved book is damaged",
-    "the room is too small"
+    "the room is too small",
+    "the school is not on the roster",
+    "the order would bring the school above its ceiling"
 };
 
 /* How a field is told where a record is named. */
@@ -186,6 +189,25 @@ static void print_slip_booked(FILE *to, const struct record *record, const struc
             qualifier, book_copies_of_slip(slip));
 }
 
+/* The account that is not on the roster, and those on it that may have been meant. */
+static void print_not_on_roster(FILE *to, const struct record *record, const struct book *book)
+{
+    char account[ACCOUNT_ROOM];
+    text_with_qualifier(record_school(record), WQ_ADDRESS_WIDTH, account);
+    fprintf(to, " | %s is not on the roster", account);
+    roster_print_similar(to, book->roster, "; similar there:", record_school(record));
+}
+
+/* Why an order would pass its school's ceiling. */
+static void print_ceiling_passed(FILE *to, const struct record *record, const struct book *book)
+{
+    uint64_t copies = book_open_copies(book, record_school(record)), quantity = 0;
+    for (size_t i = 0; i < QUANTITY_WIDTH; i++)
+        quantity = 10 * quantity + (uint64_t)(record->bytes[ORDER_QUANTITY + i] - '0');
+    fprintf(to, " | open for the school %" PRIu64 ", with this order %" PRIu64 ", ceiling %" PRIu64,
+            copies, copies + quantity, roster_account(book->roster, record_school(record)).ceiling);
+}
+
 static void print_figures(FILE *to, const wq_booked *booked)
 {
     fprintf(to, " | ordered %" PRIu64 ", filled %" PRIu64 ", open %" PRIu64
@@ -208,6 +230,10 @@ void print_answer(FILE *to, const char *name, unsigned long number, const struct
         print_line_booked(to, record, book);
     else if (booked->answer == WQ_SLIP_DIFFERS)
         print_slip_booked(to, record, book);
+    else if (booked->answer == WQ_NOT_ON_ROSTER)
+        print_not_on_roster(to, record, book);
+    else if (booked->answer == WQ_CEILING_PASSED)
+        print_ceiling_passed(to, record, book);
     else if (booked->answer == WQ_DONE)
         print_figures(to, booked);
     fputc('\n', to);

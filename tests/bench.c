@@ -24,14 +24,15 @@ enum {
     SUPPLIER_PLACE = ADDRESS + QUALIFIER, REFERENCE_PLACE = 2 * SUPPLIER_PLACE,
     ARTICLE_PLACE = REFERENCE_PLACE + REFERENCE_WIDTH,
     LINE = 56, SLIP = 50, SAVED_LINE = 53, SAVED_SLIP = 51, SAVED_END = 5,
+    SCHOOLS = 30, MOST_SCHOOLS = 64,
     MOST_LINES = 512, MOST_SLIPS = 2 * MOST_LINES, POSITIONS_ON_A_SLIP = 8,
     SAVE_ROOM = MOST_LINES * SAVED_LINE + MOST_SLIPS * SAVED_SLIP + SAVED_END,
-    ANSWER_DONE = 0, ANSWER_REPEATED = 17
+    ANSWER_DONE = 0, ANSWER_REPEATED = 17, ANSWER_NOT_ON_ROSTER = 24
 };
 
 static const size_t sizes[] = {10, 100, 256, MOST_LINES};
-enum { SIZES = sizeof sizes / sizeof sizes[0], BOOK_ROWS = 7,
-       MOST_ROWS = 2 * (1 + MOST_RECORDS) + BOOK_ROWS * SIZES };
+enum { SIZES = sizeof sizes / sizeof sizes[0], BOOK_ROWS = 7, ACCOUNT_ROWS = 2,
+       MOST_ROWS = 2 * (1 + MOST_RECORDS) + BOOK_ROWS * SIZES + ACCOUNT_ROWS };
 
 /* The calls of one side. */
 enum { LIBRARY, REFERENCE, SIDES };
@@ -39,7 +40,8 @@ struct side {
     wq_checked (*check)(const uint8_t *, size_t, size_t *, size_t);
     wq_written (*write)(const uint8_t *, size_t, const size_t *, size_t, size_t,
                         const uint8_t *, size_t, uint8_t *, size_t);
-    wq_booked (*book)(const uint8_t *, size_t, uint8_t *, size_t, uint8_t *, size_t, size_t *);
+    wq_booked (*book)(const uint8_t *, size_t, const uint8_t *, size_t, uint8_t *, size_t,
+                      uint8_t *, size_t, size_t *);
     wq_booked (*line)(const uint8_t *, size_t, const uint8_t *, size_t, const uint8_t *, size_t,
                       const uint8_t *, size_t, const uint8_t *, size_t, const uint8_t *, size_t,
                       const uint8_t *, size_t, const uint8_t *, size_t, const uint8_t *, size_t,
@@ -47,10 +49,12 @@ struct side {
     wq_saved (*save)(const uint8_t *, size_t, const uint8_t *, size_t, const size_t *,
                      uint8_t *, size_t);
     wq_loaded (*load)(const uint8_t *, size_t, uint8_t *, size_t, uint8_t *, size_t, size_t *);
+    wq_account_told (*account)(const wq_school *, size_t, const uint8_t *, size_t,
+                               const uint8_t *, size_t);
 };
 static const struct side sides[SIDES] = {
-    {wq_check, wq_write, wq_book, wq_line, wq_save, wq_load},
-    {ref_check, ref_write, ref_book, ref_line, ref_save, ref_load}
+    {wq_check, wq_write, wq_book, wq_line, wq_save, wq_load, wq_account},
+    {ref_check, ref_write, ref_book, ref_line, ref_save, ref_load, ref_account}
 };
 
 /* A record of the file, and what reading it gives. */
@@ -66,10 +70,10 @@ struct book {
     size_t lines_length, slips_length, used[2];
 };
 
-/* What a row times: records of the file, or one call on a book. */
+/* What a row times: records of the file, one call on a book, or one for an account. */
 struct task {
     const struct record *records;
-    size_t count;
+    size_t count; /* calls in a round */
     char text[TEXT];
     wq_booked booked;
 };
@@ -88,6 +92,7 @@ struct row {
 };
 
 static struct record records[MOST_RECORDS];
+static wq_school roster[MOST_SCHOOLS];
 static struct book kept, lent, loaded;
 static uint8_t saved[SAVE_ROOM], out[SAVE_ROOM];
 static size_t saved_length;
@@ -149,8 +154,9 @@ static uint64_t run_book(const struct side *side, const struct task *task, size_
     size_t length = strlen(task->text), last = (kept.used[0] - 1) * LINE;
     uint64_t wrong = 0;
     while (rounds-- > 0) {
-        wq_booked got = side->book(record, length, lent.lines, lent.lines_length, lent.slips,
-                                   lent.slips_length, lent.used);
+        wq_booked got = side->book(record, length, (const uint8_t *)roster,
+                                   SCHOOLS * sizeof roster[0], lent.lines, lent.lines_length,
+                                   lent.slips, lent.slips_length, lent.used);
         wrong |= unlike(&got, &task->booked);
         memcpy(lent.used, kept.used, sizeof kept.used);
         memcpy(lent.lines + last, kept.lines + last, LINE);
@@ -200,6 +206,20 @@ static uint64_t run_load(const struct side *side, const struct task *task, size_
         wq_loaded got = side->load(saved, saved_length, loaded.lines, kept.lines_length,
                                    loaded.slips, kept.slips_length, loaded.used);
         wrong |= got.answer | got.place;
+    }
+    return wrong;
+}
+
+/* The call for an account: of the middle school, or of one that is on no roster. */
+static uint64_t run_account(const struct side *side, const struct task *task, size_t rounds)
+{
+    const uint8_t *account = (const uint8_t *)task->text;
+    size_t schools = task->booked.answer == ANSWER_DONE ? SCHOOLS : MOST_SCHOOLS;
+    uint64_t wrong = 0;
+    while (rounds-- > 0) {
+        wq_account_told got = side->account(roster, schools, account, ADDRESS,
+                                            account + ADDRESS, QUALIFIER);
+        wrong |= (got.answer ^ task->booked.answer) | got.place;
     }
     return wrong;
 }
@@ -352,6 +372,19 @@ static void time_records(run *calls, const char *call, size_t count)
 
 /* --- Books --- */
 
+/* Schools that differ late, as at a desk; the one that orders stands in the middle of the
+   first 30. */
+static void fill_roster(void)
+{
+    char text[TEXT];
+    for (size_t i = 0; i < MOST_SCHOOLS; i++) {
+        snprintf(text, sizeof text, "%05zu     VD", 43210 - SCHOOLS / 2 + i);
+        memcpy(roster[i].address, text, ADDRESS);
+        memcpy(roster[i].qualifier, text + ADDRESS, QUALIFIER);
+        roster[i].ceiling = WQ_HIGHEST_CEILING;
+    }
+}
+
 /* One school, one supplier: keys differ late, as at a desk. */
 static void order_text(char *text, size_t line)
 {
@@ -374,7 +407,8 @@ static void report_text(char *text, size_t line)
 
 static wq_booked book_into(struct book *book, const struct side *side, const char *text)
 {
-    return side->book((const uint8_t *)text, strlen(text), book->lines, book->lines_length,
+    return side->book((const uint8_t *)text, strlen(text), (const uint8_t *)roster,
+                      SCHOOLS * sizeof roster[0], book->lines, book->lines_length,
                       book->slips, book->slips_length, book->used);
 }
 
@@ -508,10 +542,20 @@ static void time_books(size_t which)
     }
 }
 
+static void time_accounts(void)
+{
+    const struct task found = {NULL, 1, "43210     VD", {ANSWER_DONE, 0, 0, 0, 0, 0, 0}};
+    const struct task absent = {NULL, 1, "43201     IB",
+                                {ANSWER_NOT_ON_ROSTER, 0, 0, 0, 0, 0, 0}};
+    time_row(run_account, &found, "account, found", "the middle of 30 schools", NULL);
+    time_row(run_account, &absent, "account, not on the roster (24)", "64 schools", NULL);
+}
+
 int main(int count, char **arguments)
 {
     static uint8_t bytes[FILE_ROOM];
     insist(count == 2, "usage: bench FILE");
+    fill_roster();
     size_t taken = take_records(bytes, read_file(arguments[1], bytes));
     for (size_t pass = 0; pass < PASSES; pass++) {
         row_count = 0;
@@ -519,6 +563,7 @@ int main(int count, char **arguments)
         time_records(run_write, "write", taken);
         for (size_t i = 0; i < BOOK_ROWS; i++)
             time_books(i);
+        time_accounts();
     }
     print_table();
     return 0;

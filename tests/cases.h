@@ -8,20 +8,49 @@
 void compare_checks(struct dice *dice);
 void compare_writes(struct dice *dice);
 void compare_bookings(struct dice *dice);
+void compare_rosters(struct dice *dice);
+void compare_ceilings(struct dice *dice);
+void compare_accounts(struct dice *dice);
 void compare_saves(struct dice *dice);
 
 /* Few cases each, of large books and far numbers. */
 void compare_far_records(struct dice *dice);
 void compare_far_books(struct dice *dice);
 void compare_far_saves(struct dice *dice);
+void compare_far_rosters(struct dice *dice);
 
 /* compare_book.c: the figures of a line by its key of 49 bytes. */
 uint64_t ask_line(const uint8_t *key, struct shelf *shelf);
 
-/* compare_book.c: books a record of this shape for this key; where a slip is given, as that
-   slip. */
+/* compare_book.c: a record of this shape for this key; where a slip is given, as that slip. */
+struct booking {
+    enum shape shape;
+    const uint8_t *key;
+    size_t copies;
+    const uint8_t *slip;
+};
+
+/* compare_book.c: books it before this roster. */
+uint64_t book_before(struct dice *dice, const struct roster *roster, struct shelf *shelf,
+                     struct booking booking);
+
+/* compare_book.c: books it before a roster on which its school stands with the highest
+   ceiling. So does book_listed with a record. */
 uint64_t book_one(struct dice *dice, struct shelf *shelf, enum shape shape,
                   const uint8_t *key, size_t copies, const uint8_t *slip);
+uint64_t book_listed(struct dice *dice, const uint8_t *record, size_t length,
+                     struct shelf *shelf);
+
+/* compare_roster.c: books a record of any kind, now and then before another roster first. */
+void book_meeting(struct dice *dice, const uint8_t *record, size_t length,
+                  struct shelf *shelf);
+
+/* compare_ceiling.c: an order for a new line of this school, which stands on a roster with
+   this ceiling; and both sides of the ceiling, where the book has a line left. */
+uint64_t order_under(struct dice *dice, struct shelf *shelf, const uint8_t *account,
+                     size_t copies, uint64_t ceiling);
+void order_at_edge(struct dice *dice, struct shelf *shelf, const uint8_t *account,
+                   size_t copies, enum class class);
 
 /* compare_save.c: a save of any sound book, loaded again, gives it back where its keys
    allow. */

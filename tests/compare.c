@@ -12,16 +12,17 @@ static const uint64_t default_calls = 1010000, default_seed = 1;
 
 enum { FAR_EVERY = 4 };
 
-/* The answers each call can give, as document 01 lists them. */
+/* The answers each call can give, as the documents list them. */
 static int can_answer(enum call call, uint64_t answer)
 {
     switch (call) {
     case CHECK: return answer <= 10 || answer == 23;
     case WRITE: return answer <= 1 || answer == 5 || (answer >= 8 && answer <= 10)
                     || answer == 23;
-    case BOOK: return answer <= 21;
+    case BOOK: return answer <= 21 || answer == 24 || answer == 25;
     case LINE: return answer == 0 || answer == 16 || answer == 20;
     case SAVE: return answer == 0 || answer == 20 || answer == 23;
+    case ACCOUNT: return answer == 0 || answer == 20 || answer == 24;
     default: return answer == 0 || answer == 20 || answer == 22 || answer == 23;
     }
 }
@@ -60,12 +61,16 @@ static void run_round(uint64_t seed, uint64_t round)
     compare_checks(&dice);
     compare_writes(&dice);
     compare_bookings(&dice);
+    compare_rosters(&dice);
+    compare_ceilings(&dice);
+    compare_accounts(&dice);
     compare_saves(&dice);
     if (round % FAR_EVERY != 0)
         return;
     compare_far_records(&dice);
     compare_far_books(&dice);
     compare_far_saves(&dice);
+    compare_far_rosters(&dice);
 }
 
 int main(int count, char **words)

@@ -16,15 +16,32 @@ uint64_t ask_line(const uint8_t *key, struct shelf *shelf)
     return both_line(parts, part_widths, shelf);
 }
 
-uint64_t book_one(struct dice *dice, struct shelf *shelf, enum shape shape,
-                  const uint8_t *key, size_t copies, const uint8_t *slip)
+uint64_t book_before(struct dice *dice, const struct roster *roster, struct shelf *shelf,
+                     struct booking booking)
 {
     struct sheet sheet;
     uint8_t record[RECORD_ROOM];
-    make_fixed(dice, &sheet, shape, key, copies);
-    if (slip != NULL)
-        memcpy(sheet.fixed + IN_DELIVERY_DATE, slip + IN_DATE, IN_DATE_TO_POSITION);
-    return both_book(record, assemble(&sheet, record), shelf);
+    make_fixed(dice, &sheet, booking.shape, booking.key, booking.copies);
+    if (booking.slip != NULL)
+        memcpy(sheet.fixed + IN_DELIVERY_DATE, booking.slip + IN_DATE, IN_DATE_TO_POSITION);
+    return both_book(record, assemble(&sheet, record), roster, shelf);
+}
+
+uint64_t book_one(struct dice *dice, struct shelf *shelf, enum shape shape,
+                  const uint8_t *key, size_t copies, const uint8_t *slip)
+{
+    static struct roster roster;
+    const struct booking booking = {shape, key, copies, slip};
+    make_roster(dice, &roster, key, WQ_HIGHEST_CEILING);
+    return book_before(dice, &roster, shelf, booking);
+}
+
+uint64_t book_listed(struct dice *dice, const uint8_t *record, size_t length,
+                     struct shelf *shelf)
+{
+    static struct roster roster;
+    make_roster(dice, &roster, account_of(record, length), WQ_HIGHEST_CEILING);
+    return both_book(record, length, &roster, shelf);
 }
 
 /* The key of a line that is on the shelf, or of one that may be. */
@@ -73,15 +90,15 @@ static void book_sequence(struct dice *dice, struct shelf *shelf, size_t steps,
     for (size_t step = 0; step < steps; step++) {
         size_t at = known < HISTORY ? known++ : below(dice, HISTORY);
         lengths[at] = make_booking(dice, shelf, variety, history[at]);
-        both_book(history[at], lengths[at], shelf);
+        book_meeting(dice, history[at], lengths[at], shelf);
         if (chance(dice, 4)) {
             at = below(dice, known);
-            both_book(history[at], lengths[at], shelf);
+            book_meeting(dice, history[at], lengths[at], shelf);
         }
         if (chance(dice, 6)) {
             at = below(dice, known);
             history[at][below(dice, lengths[at])] ^= (uint8_t)(1u << below(dice, 8));
-            both_book(history[at], lengths[at], shelf);
+            book_meeting(dice, history[at], lengths[at], shelf);
         }
         if (chance(dice, 3)) {
             pick_key(dice, shelf, variety, key);
@@ -130,7 +147,7 @@ static void book_unreadable(struct dice *dice)
         size_t length = assemble(&sheet, record);
         if (i % 5 == 4)
             record[below(dice, length)] = (uint8_t)(chance(dice, 2) ? '*' : roll(dice));
-        both_book(record, chance(dice, 6) ? below(dice, length) : length, &shelf);
+        book_meeting(dice, record, chance(dice, 6) ? below(dice, length) : length, &shelf);
     }
 }
 
@@ -152,9 +169,9 @@ static void book_at_limit(struct dice *dice)
             put_little(line + 52, 4, 9999999 - missing[i]);
             make_fixed(dice, &sheet, GOODS_SHAPE, line, copies[j]);
             size_t length = assemble(&sheet, record);
-            both_book(record, length, &shelf);
+            book_listed(dice, record, length, &shelf);
             ask_line(line, &shelf);
-            both_book(record, length, &shelf);
+            book_listed(dice, record, length, &shelf);
         }
 }
 
@@ -212,7 +229,7 @@ static void try_all(struct dice *dice, const struct shelf *shelf)
     if (chance(dice, 3))
         record[below(dice, length)] = (uint8_t)roll(dice);
     copy = *shelf;
-    both_book(record, chance(dice, 8) ? 0 : length, &copy);
+    book_listed(dice, record, chance(dice, 8) ? 0 : length, &copy);
     copy = *shelf;
     make_line_key(dice, 1, key);
     ask_line(key, &copy);

@@ -226,7 +226,7 @@ static void break_counts(struct dice *dice)
    behind the room: a line or a slip that would count is among it. */
 static void overuse_rooms(struct dice *dice)
 {
-    enum { LINES = 3, SLIPS = 4, TIMES = 100 };
+    enum { LINES = 3, SLIPS = 4, TIMES = 150 };
     static struct shelf shelf;
     make_shelf(dice, &shelf, LINES, SLIPS);
     stock_unique(dice, &shelf, LINES, SLIPS);

@@ -111,7 +111,8 @@ static void check_far_lengths(struct dice *dice)
         memset(record + length, 'c', TWO_BYTES);
         expect(RECORD_OVER_65536, 1, both_check(record, TWO_BYTES + length, IN_FULL_TABLE), 1);
         make_shelf(dice, &shelf, 2, 2);
-        expect(RECORD_OVER_65536, 1, both_book(record, TWO_BYTES + length, &shelf), 1);
+        expect(RECORD_OVER_65536, 1, book_listed(dice, record, TWO_BYTES + length, &shelf),
+               1);
     }
 }
 

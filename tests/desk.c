@@ -6,6 +6,7 @@
 
 #include <inttypes.h>
 #include <stdio.h>
+#include <string.h>
 
 enum { DESK_LINES = 256, DESK_SLIPS = 512, MOST_INPUT = 1 << 24 };
 
@@ -13,10 +14,24 @@ static uint8_t lines[DESK_LINES * LINE_WIDTH], slips[DESK_SLIPS * SLIP_WIDTH];
 static uint8_t input[MOST_INPUT];
 static size_t used[2];
 
+/* The desk has no roster: each record meets one of its own account alone, with the highest
+   ceiling, or of no entry where it is too short to have an account. Gives its length. */
+static size_t own_roster(const uint8_t *record, size_t length, uint8_t *roster)
+{
+    size_t school = ref_kind_of(record, length) == ORDER ? SENDER_PLACE : RECIPIENT_PLACE;
+    if (length < school + PARTY_WIDTH)
+        return 0;
+    memcpy(roster, record + school, PARTY_WIDTH);
+    memset(roster + SCHOOL_CEILING_PLACE, 0xff, CEILING_WIDTH);
+    return SCHOOL_WIDTH;
+}
+
 /* Books one record and prints its line. Too long, and no known kind, have no letter. */
 static void answer_record(size_t number, const uint8_t *record, size_t length)
 {
-    wq_booked booked = ref_book(record, length, lines, sizeof lines, slips, sizeof slips, used);
+    uint8_t roster[SCHOOL_WIDTH];
+    wq_booked booked = ref_book(record, length, roster, own_roster(record, length, roster),
+                                lines, sizeof lines, slips, sizeof slips, used);
     int letter = booked.answer == 1 || booked.answer == 2 ? '?' : record[0];
     printf("%zu %c %" PRIu64 " %" PRIu64 " %" PRIu64 " %" PRIu64 " %" PRIu64 " %" PRIu64 "\n",
            number, letter, booked.answer, booked.ordered, booked.filled, booked.still_open,

@@ -82,6 +82,44 @@ void stock_unique(struct dice *dice, struct shelf *shelf, size_t lines, size_t s
     shelf->used[1] = slips;
 }
 
+/* One more line of this school, whose key no line of the book has. */
+void add_line(struct shelf *shelf, const uint8_t *account, size_t ordered, size_t arrived,
+              uint8_t mark)
+{
+    uint8_t *line = shelf->lines + shelf->used[0] * IN_LINE;
+    unique_line_key(line, shelf->used[0]++);
+    memcpy(line, account, IN_PARTY);
+    put_little(line + IN_ORDERED, 2, ordered);
+    line[IN_MARK] = mark;
+    put_little(line + IN_ARRIVED, 4, arrived);
+}
+
+/* As few more lines as can have so many copies open; some of them filled in part. */
+void add_open(struct dice *dice, struct shelf *shelf, const uint8_t *account, size_t open)
+{
+    while (open > 0) {
+        size_t on_line = open < IN_MOST_COPIES ? open : IN_MOST_COPIES;
+        size_t filled = below(dice, IN_MOST_COPIES - on_line + 1);
+        add_line(shelf, account, on_line + filled, filled, (uint8_t)below(dice, IN_LET_GO));
+        open -= on_line;
+    }
+}
+
+/* The copies open for a school, counted here a second time on purpose. */
+size_t open_on(const struct shelf *shelf, const uint8_t *account)
+{
+    size_t open = 0;
+    for (size_t i = 0; i < shelf->used[0]; i++) {
+        const uint8_t *line = shelf->lines + i * IN_LINE;
+        size_t ordered = get_little(line + IN_ORDERED, 2);
+        size_t arrived = get_little(line + IN_ARRIVED, 4);
+        int is_open = line[IN_MARK] != IN_LET_GO && arrived < ordered;
+        if (is_open && memcmp(line, account, IN_PARTY) == 0)
+            open += ordered - arrived;
+    }
+    return open;
+}
+
 /* A valid save; copies 0 means any number on each slip. Slips go to the first lines. */
 size_t make_save(struct dice *dice, uint8_t *saved, size_t lines, size_t slips, size_t copies)
 {

@@ -137,7 +137,7 @@ void make_article(struct dice *dice, uint8_t *to)
     }
 }
 
-static void make_party(struct dice *dice, uint8_t *party)
+void make_party(struct dice *dice, uint8_t *party)
 {
     static const char *const qualifiers[] = {"VD", "IB", "SA"};
     size_t length = between(dice, 1, 10);

@@ -1,21 +1,26 @@
-/* Generated inputs: records of all kinds, lent books and saved books. */
+/* Generated inputs: records of all kinds, rosters, lent books and saved books. */
 #ifndef INPUTS_H
 #define INPUTS_H
 
 #include "../include/wizqamul.h"
 
 enum {
-    /* widths of document 01, stated here a second time on purpose */
-    IN_PARTY = 12, IN_KEY = 49, IN_LINE = 56, IN_SLIP_KEY = 46, IN_SLIP = 50,
+    /* widths of the documents, stated here a second time on purpose */
+    IN_ADDRESS = 10, IN_QUALIFIER = 2, IN_PARTY = 12,
+    IN_KEY = 49, IN_LINE = 56, IN_SLIP_KEY = 46, IN_SLIP = 50,
     IN_SAVED_LINE = 53, IN_SAVED_SLIP = 51, IN_SAVED_END = 5,
+    IN_SCHOOL = 16, IN_CEILING = 12, IN_MOST_SCHOOLS = 64,
     /* where the parts of a line, of a slip and of a delivery's fixed part start; in a save
        the byte of kind stands before a line or slip */
     IN_ORDERED = 49, IN_MARK = 51, IN_ARRIVED = 52, IN_LINE_OF_SLIP = 46, IN_COPIES = 48,
     IN_DATE = 24, IN_DATE_TO_POSITION = 22, IN_DELIVERY_DATE = 28, IN_KIND_BYTE = 1,
     IN_SAVED_LINES_COUNT = 4, IN_SAVED_SLIPS_COUNT = 2,
-    IN_FULL_TABLE = 192, IN_LONGEST = 1024,
+    IN_SENDER = 4, IN_RECIPIENT = 16, IN_REFERENCE = 24, IN_ORDER_COPIES = 61,
+    IN_FULL_TABLE = 192, IN_LONGEST = 1024, IN_MOST_COPIES = 9999,
+    IN_NO_MARK = 0, IN_HELD = 1, IN_LET_GO = 2,
     SHEET_FIELDS = 80, SHEET_CONTENTS = 8192, RECORD_ROOM = 9000,
     SHELF_LINES = 514, SHELF_SLIPS = 1026,
+    FAR_ROSTER = 65536, ROSTER_ROOM = FAR_ROSTER + (IN_MOST_SCHOOLS + 3) * IN_SCHOOL,
     SAVE_ROOM = 200000
 };
 
@@ -42,6 +47,12 @@ struct shelf {
     size_t lines_length, slips_length, used[2];
 };
 
+/* A lent roster: its entries, and how many of its bytes are lent. */
+struct roster {
+    uint8_t bytes[ROSTER_ROOM];
+    size_t length;
+};
+
 enum shape { ORDER_SHAPE, GOODS_SHAPE, ADVANCE_SHAPE, CLOSING_SHAPE, REPORT_SHAPE, SHAPES };
 
 extern const size_t listed_ids[];
@@ -50,6 +61,7 @@ extern const size_t listed_count;
 /* Keys come from a small pool (variety 1 to 4 of each field), or are all random (0). */
 void make_day(struct dice *dice, uint8_t *date);
 void make_article(struct dice *dice, uint8_t *article_and_qualifier);
+void make_party(struct dice *dice, uint8_t *party);
 void make_line_key(struct dice *dice, size_t variety, uint8_t *key);
 void make_slip_part(struct dice *dice, size_t variety, uint8_t *date_number_position);
 void put_random_digits(struct dice *dice, uint8_t *to, size_t width);
@@ -76,11 +88,29 @@ void add_some_fields(struct dice *dice, struct sheet *sheet, size_t most);
 void make_sheet(struct dice *dice, struct sheet *sheet, enum shape shape, size_t most);
 size_t assemble(const struct sheet *sheet, uint8_t *record);
 
+/* Rosters. An account is an address and its qualifier. */
+const uint8_t *account_of(const uint8_t *record, size_t length);
+uint64_t any_ceiling(struct dice *dice);
+void make_other(struct dice *dice, const uint8_t *account, uint8_t *other);
+void put_school(struct roster *roster, size_t index, const uint8_t *account, uint64_t ceiling);
+void make_roster_without(struct dice *dice, struct roster *roster, const uint8_t *account,
+                         size_t entries);
+void make_roster_of(struct dice *dice, struct roster *roster, const uint8_t *account,
+                    uint64_t ceiling, size_t entries, size_t place);
+void make_roster(struct dice *dice, struct roster *roster, const uint8_t *account,
+                 uint64_t ceiling);
+void make_roster_across(struct roster *roster, const uint8_t *account, size_t place);
+void make_wrong_roster(struct dice *dice, struct roster *roster, const uint8_t *account);
+
 /* Books and saves. */
 void make_shelf(struct dice *dice, struct shelf *shelf, size_t line_room, size_t slip_room);
 void stock_shelf(struct dice *dice, struct shelf *shelf, size_t lines, size_t slips,
                  size_t variety);
 void stock_unique(struct dice *dice, struct shelf *shelf, size_t lines, size_t slips);
+void add_line(struct shelf *shelf, const uint8_t *account, size_t ordered, size_t arrived,
+              uint8_t mark);
+void add_open(struct dice *dice, struct shelf *shelf, const uint8_t *account, size_t open);
+size_t open_on(const struct shelf *shelf, const uint8_t *account);
 void unique_line_key(uint8_t *key, size_t number);
 void unique_slip_key(uint8_t *key, size_t number);
 size_t make_save(struct dice *dice, uint8_t *saved, size_t lines, size_t slips,

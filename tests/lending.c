@@ -24,7 +24,7 @@ enum {
 struct tally tally;
 
 const char *const call_names[CALL_COUNT] = {
-    "check", "write", "book", "line", "save", "load"
+    "check", "write", "book", "line", "save", "load", "account"
 };
 
 /* One lent piece: the bytes before the call, and where its copy stands on each side. */
@@ -45,12 +45,16 @@ struct outcome { uint64_t values[MOST_VALUES]; };
 /* Both sides have the same layout. */
 static size_t desk_words[SIDES][DESK_WORDS];
 
-/* What stands between the pieces: a line and a slip that would count, fields, digits, the
-   rest of a kind that was cut. It changes from call to call and differs between the sides,
+/* What stands between the pieces: a line, a slip and schools that would count, fields,
+   digits, the rest of a kind that was cut. It changes from call to call and differs between the sides,
    so that reading it shows. */
 static const char guards[][GUARD + SLACK + 1] = {
     "43210     VD24000     VDA-17      9783442756841EN\1\0\0\0\0\0\0" "************************",
     "24000     VD43210     VD2024022670012345  0001\0\0\1\0" "000000000000000000000000000000",
+    "43210     VD\377\377\377\377" "43210     VD\377\377\377\377" "43210     VD\0\0\0\0"
+    "43210     IB\377\377\377\377" "43210     VD\377\377\377\377",
+    "43210     VD\0\0\0\0" "43210     VD\0\0\0\0" "43210     VD\377\377\377\377"
+    "24000     VD\377\377\377\377" "43210     VD\0\0\0\0",
     "*9999*9999*9999*9999*9999*9999*9999*9999*9999*9999*9999*9999*9999*9999*9999*9999",
     "00000000000000000000000000000000000000000000000000000000000000000000000000000000",
     "                                                                                ",
@@ -86,14 +90,14 @@ static void add_piece(struct lending *lending, const char *name, const void *byt
     piece->align = align;
 }
 
-/* Lays the pieces out, bytes at any alignment and words at theirs, and copies them. */
+/* Lays the pieces out, each at any place of its own alignment, and copies them. */
 static void lay_out(struct lending *lending)
 {
     size_t end = 0;
     for (size_t i = 0; i < lending->count; i++) {
         struct piece *piece = &lending->pieces[i];
         size_t aligned = (end + GUARD + 7) / 8 * 8;
-        piece->place = piece->align == 1 ? aligned + (size_t)(tally.call % 8) : aligned;
+        piece->place = aligned + (size_t)(tally.call % 8) / piece->align * piece->align;
         if (piece->place + piece->length + GUARD > sizeof desk_words[0])
             abort();
         for (size_t side = 0; side < SIDES; side++) {
@@ -146,6 +150,8 @@ static struct outcome figures(wq_booked booked)
 #define WORDS(i) (size_t *)(void *)copy_of(lending, side, i), \
                  lending->pieces[i].length / sizeof (size_t)
 #define USED(i) (size_t *)(void *)copy_of(lending, side, i)
+#define SCHOOLS(i) (const wq_school *)(void *)copy_of(lending, side, i), \
+                   lending->pieces[i].length / sizeof (wq_school)
 
 static struct outcome run_record_call(const struct lending *lending, size_t side)
 {
@@ -176,12 +182,21 @@ static struct outcome run_save_call(const struct lending *lending, size_t side)
     return outcome;
 }
 
+static struct outcome run_account_call(const struct lending *lending, size_t side)
+{
+    wq_account_told told = side == 0 ? ref_account(SCHOOLS(0), BYTES(1), BYTES(2))
+                                     : wq_account(SCHOOLS(0), BYTES(1), BYTES(2));
+    struct outcome outcome = {{told.answer, told.place, told.ceiling}};
+    return outcome;
+}
+
 static struct outcome run_call(const struct lending *lending, size_t side)
 {
     switch (lending->call) {
     case BOOK:
-        return figures(side == 0 ? ref_book(BYTES(0), BYTES(1), BYTES(2), USED(3))
-                                 : wq_book(BYTES(0), BYTES(1), BYTES(2), USED(3)));
+        return figures(side == 0
+            ? ref_book(BYTES(0), BYTES(1), BYTES(2), BYTES(3), USED(4))
+            : wq_book(BYTES(0), BYTES(1), BYTES(2), BYTES(3), USED(4)));
     case LINE:
         return figures(side == 0
             ? ref_line(BYTES(0), BYTES(1), BYTES(2), BYTES(3), BYTES(4), BYTES(5), BYTES(6),
@@ -190,6 +205,8 @@ static struct outcome run_call(const struct lending *lending, size_t side)
                       BYTES(7), BYTES(8), USED(9)));
     case SAVE: case LOAD:
         return run_save_call(lending, side);
+    case ACCOUNT:
+        return run_account_call(lending, side);
     default:
         return run_record_call(lending, side);
     }
@@ -247,14 +264,20 @@ void insist(int holds, const char *fact)
     exit(1);
 }
 
-/* Where a refusal has to leave everything as it was. */
-static int is_unchanged(const struct lending *lending, size_t side)
+/* Whether the first pieces are as they were lent. */
+static int are_unchanged(const struct lending *lending, size_t side, size_t pieces)
 {
-    for (size_t i = 0; i < lending->count; i++)
+    for (size_t i = 0; i < pieces; i++)
         if (memcmp(copy_of(lending, side, i), lending->pieces[i].bytes,
                    lending->pieces[i].length) != 0)
             return 0;
     return 1;
+}
+
+/* Where a refusal has to leave everything as it was. */
+static int is_unchanged(const struct lending *lending, size_t side)
+{
+    return are_unchanged(lending, side, lending->count);
 }
 
 static int is_same(const struct lending *lending)
@@ -290,6 +313,7 @@ static uint64_t run_both(struct lending *lending)
         fail(lending, outcomes, "no such answer");
     tally.seen[lending->call][answer]++;
     tally.place = outcomes[0].values[1];
+    tally.value = outcomes[0].values[2];
     return answer;
 }
 
@@ -344,14 +368,18 @@ uint64_t both_write(const struct sheet *sheet, size_t fixed_length, size_t table
     return answer;
 }
 
-uint64_t both_book(const uint8_t *record, size_t length, struct shelf *shelf)
+uint64_t both_book(const uint8_t *record, size_t length, const struct roster *roster,
+                   struct shelf *shelf)
 {
+    enum { ONLY_READ = 2 };
     struct lending lending = lend(BOOK);
     add_piece(&lending, "record", record, length, 1);
+    add_piece(&lending, "roster", roster->bytes, roster->length, 1);
     add_shelf(&lending, shelf);
     uint64_t answer = run_both(&lending);
+    insist(are_unchanged(&lending, 0, ONLY_READ), "record and roster never change");
     if (answer == 0)
-        take_back(&lending, 1, shelf);
+        take_back(&lending, ONLY_READ, shelf);
     return answer;
 }
 
@@ -390,5 +418,19 @@ uint64_t both_load(const uint8_t *saved, size_t length, struct shelf *shelf)
     uint64_t answer = run_both(&lending);
     if (answer == 0)
         take_back(&lending, 1, shelf);
+    return answer;
+}
+
+uint64_t both_account(const wq_school *schools, size_t count, const uint8_t *address,
+                      size_t address_length, const uint8_t *qualifier,
+                      size_t qualifier_length)
+{
+    enum { SCHOOL_ALIGN = sizeof schools->ceiling };
+    struct lending lending = lend(ACCOUNT);
+    add_piece(&lending, "schools", schools, count * sizeof schools[0], SCHOOL_ALIGN);
+    add_piece(&lending, "address", address, address_length, 1);
+    add_piece(&lending, "qualifier", qualifier, qualifier_length, 1);
+    uint64_t answer = run_both(&lending);
+    insist(is_unchanged(&lending, 0), "a call for an account changes nothing");
     return answer;
 }

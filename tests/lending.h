@@ -5,14 +5,15 @@
 
 #include "inputs.h"
 
-enum call { CHECK, WRITE, BOOK, LINE, SAVE, LOAD, CALL_COUNT };
+enum call { CHECK, WRITE, BOOK, LINE, SAVE, LOAD, ACCOUNT, CALL_COUNT };
 
-enum { ANSWER_COUNT = 24, KEY_PARTS = 7, MOST_TABLE = 66000 };
+enum { ANSWER_COUNT = 26, KEY_PARTS = 7, MOST_TABLE = 66000 };
 
 /* The calls so far, how often each answer of each call was seen, where we are (the
-   round's seed and the number of the call in it), and the place that the last call gave. */
+   round's seed and the number of the call in it), and the place and the first value that
+   the last call gave. */
 struct tally {
-    uint64_t calls, seen[CALL_COUNT][ANSWER_COUNT], seed, call, place;
+    uint64_t calls, seen[CALL_COUNT][ANSWER_COUNT], seed, call, place, value;
 };
 
 extern struct tally tally;
@@ -24,16 +25,20 @@ extern const char *const call_names[CALL_COUNT];
 uint64_t both_check(const uint8_t *record, size_t length, size_t table_length);
 uint64_t both_write(const struct sheet *sheet, size_t fixed_length, size_t table_length,
                     size_t contents_length, uint8_t *out, size_t out_length);
-uint64_t both_book(const uint8_t *record, size_t length, struct shelf *shelf);
+uint64_t both_book(const uint8_t *record, size_t length, const struct roster *roster,
+                   struct shelf *shelf);
 uint64_t both_line(const uint8_t *const parts[KEY_PARTS], const size_t lengths[KEY_PARTS],
                    struct shelf *shelf);
 uint64_t both_save(struct shelf *shelf, uint8_t *out, size_t out_length);
 uint64_t both_load(const uint8_t *saved, size_t length, struct shelf *shelf);
+uint64_t both_account(const wq_school *schools, size_t count, const uint8_t *address,
+                      size_t address_length, const uint8_t *qualifier,
+                      size_t qualifier_length);
 
 /* Ends the program with 1 where a fact about the answers does not hold. */
 void insist(int holds, const char *fact);
 
-/* samples.c: document 01's samples, with the expected values, for both. */
+/* samples.c: the documents' samples, with the expected values, for both. */
 void run_samples(void);
 
 #endif

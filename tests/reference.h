@@ -1,4 +1,4 @@
-/* A second implementation of document 01, written in C from the document alone.
+/* A second implementation of documents 01 and 02, written in C from the documents alone.
    Same parameters and results as the calls of wizqamul.h; no heap, no global state. */
 #ifndef REFERENCE_H
 #define REFERENCE_H
@@ -14,6 +14,7 @@ wq_written ref_write(const uint8_t *fixed, size_t fixed_length,
                      uint8_t *out, size_t out_length);
 
 wq_booked ref_book(const uint8_t *record, size_t record_length,
+                   const uint8_t *roster, size_t roster_length,
                    uint8_t *lines, size_t lines_length,
                    uint8_t *slips, size_t slips_length, size_t *used);
 
@@ -34,5 +35,9 @@ wq_saved ref_save(const uint8_t *lines, size_t lines_length,
 wq_loaded ref_load(const uint8_t *saved, size_t saved_length,
                    uint8_t *lines, size_t lines_length,
                    uint8_t *slips, size_t slips_length, size_t *used);
+
+wq_account_told ref_account(const wq_school *schools, size_t count,
+                            const uint8_t *address, size_t address_length,
+                            const uint8_t *qualifier, size_t qualifier_length);
 
 #endif

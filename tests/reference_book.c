@@ -124,12 +124,24 @@ static size_t copies_of(const uint8_t *record, enum record_kind kind)
     return ref_number(record + place, QUANTITY_WIDTH);
 }
 
-/* An accepted order adds a line; 14, then 15. */
+/* The copies open on all used lines of a school, also on lines whose key repeats. */
+static size_t open_copies(const struct book *book, const uint8_t *school)
+{
+    size_t open = 0;
+    for (size_t i = 0; i < book->used_lines; i++)
+        if (memcmp(line_at(book, i), school, PARTY_WIDTH) == 0)
+            open += figures_of(line_at(book, i)).still_open;
+    return open;
+}
+
+/* An accepted order adds a line; 14, 25, 15. The key begins with the school. */
 static wq_booked book_order(const struct book *book, const uint8_t *key, size_t copies,
-                            uint8_t *lines, size_t *used)
+                            size_t ceiling, uint8_t *lines, size_t *used)
 {
     if (find_line(book, key) < book->used_lines)
         return refused(LINE_EXISTS, 0);
+    if (open_copies(book, key) + copies > ceiling)
+        return refused(CEILING_PASSED, 0);
     if (book->used_lines == book->line_room)
         return refused(LINES_FULL, 0);
     uint8_t *line = lines + book->used_lines * LINE_WIDTH;
@@ -192,8 +204,9 @@ static wq_booked book_report(const struct book *book, const uint8_t *record,
     return figures_of(line);
 }
 
-/* Book: 20, 1 to 10, 13, 11, 12, then the answers of the kind. */
+/* Book: 20, 1 to 10, 13, 11, 12, 24, then the answers of the kind. */
 wq_booked ref_book(const uint8_t *record, size_t record_length,
+                   const uint8_t *roster, size_t roster_length,
                    uint8_t *lines, size_t lines_length,
                    uint8_t *slips, size_t slips_length, size_t *used)
 {
@@ -201,7 +214,8 @@ wq_booked ref_book(const uint8_t *record, size_t record_length,
     struct optional_field fields[MOST_FIELDS];
     size_t count;
     uint8_t key[LINE_KEY_WIDTH];
-    if (!ref_open_book(lines, lines_length, slips, slips_length, used, &book))
+    if (!ref_roster_fits(roster_length)
+        || !ref_open_book(lines, lines_length, slips, slips_length, used, &book))
         return refused(BOOK_UNSOUND, 0);
     struct verdict verdict = ref_judge_record(record, record_length, fields, &count);
     if (verdict.answer != DONE)
@@ -214,8 +228,12 @@ wq_booked ref_book(const uint8_t *record, size_t record_length,
     line_key_of(record, kind, key);
     if (key[2 * PARTY_WIDTH] == ' ')
         return refused(REFERENCE_BLANK, 0);
+    const uint8_t *school = ref_find_school(roster, roster_length, key);
+    if (school == NULL)
+        return refused(NOT_ON_ROSTER, 0);
     if (kind == ORDER)
-        return book_order(&book, key, copies_of(record, kind), lines, used);
+        return book_order(&book, key, copies_of(record, kind), ref_ceiling_of(school), lines,
+                          used);
     if (kind == REPORT)
         return book_report(&book, record, key, lines);
     return book_delivery(&book, record, key, copies_of(record, kind), lines, slips, used);

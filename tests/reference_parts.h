@@ -1,5 +1,6 @@
 /* What the files of the reference share: widths, limits, answers, and the judges of
-   fields, records and books. Document 01 gives every number that stands here. */
+   fields, records, rosters and books. Documents 01 and 02 give every number that stands
+   here. */
 #ifndef REFERENCE_PARTS_H
 #define REFERENCE_PARTS_H
 
@@ -42,6 +43,12 @@ enum {
     ID_DIGITS = 4, FIELD_HEAD = 1 + ID_DIGITS, END_ID = 9999
 };
 
+/* The roster: each entry an account (address and qualifier) and its ceiling. */
+enum {
+    SCHOOL_CEILING_PLACE = PARTY_WIDTH, CEILING_WIDTH = 4,
+    SCHOOL_WIDTH = SCHOOL_CEILING_PLACE + CEILING_WIDTH, MOST_SCHOOLS = 64
+};
+
 /* The lent book and the saved book. */
 enum {
     LINE_KEY_WIDTH = 2 * PARTY_WIDTH + WANTED_WIDTH,
@@ -63,14 +70,15 @@ enum {
     SAVED_END_WIDTH = 1 + 2 + 2
 };
 
-/* Document 01's answer numbers. */
+/* Document 01's answer numbers, then document 02's. */
 enum answer {
     DONE = 0, TOO_LONG = 1, UNKNOWN_KIND = 2, TOO_SHORT = 3, BYTE_NOT_ALLOWED = 4,
     FIXED_FIELD_BROKEN = 5, STAR_OR_ID_MISSING = 6, END_MISPLACED = 7,
     TOO_MANY_FIELDS = 8, CONTENT_BROKEN = 9, GROUP_BROKEN = 10, QUANTITY_ZERO = 11,
     REFERENCE_BLANK = 12, NOTHING_TO_BOOK = 13, LINE_EXISTS = 14, LINES_FULL = 15,
     NO_SUCH_LINE = 16, SLIP_REPEATED = 17, SLIP_DIFFERS = 18, SLIPS_FULL = 19,
-    BOOK_UNSOUND = 20, ARRIVED_OVER_LIMIT = 21, SAVE_INVALID = 22, ROOM_TOO_SMALL = 23
+    BOOK_UNSOUND = 20, ARRIVED_OVER_LIMIT = 21, SAVE_INVALID = 22, ROOM_TOO_SMALL = 23,
+    NOT_ON_ROSTER = 24, CEILING_PASSED = 25
 };
 
 enum record_kind { NO_KIND, ORDER, DELIVERY, REPORT };
@@ -113,6 +121,11 @@ int ref_content_broken(enum record_kind kind, const struct optional_field *field
 int ref_group_broken(const struct optional_field *fields, size_t count, size_t index);
 struct verdict ref_judge_record(const uint8_t *record, size_t length,
                                 struct optional_field *fields, size_t *count);
+
+/* reference_roster.c: the lent roster. The first entry with an account, or NULL. */
+int ref_roster_fits(size_t length);
+const uint8_t *ref_find_school(const uint8_t *roster, size_t length, const uint8_t *account);
+size_t ref_ceiling_of(const uint8_t *school);
 
 /* reference_book.c: the lent book. */
 int ref_rooms_fit(size_t lines_length, size_t slips_length);

@@ -1,4 +1,5 @@
-/* Document 01's samples with the values it states, held against both implementations. */
+/* Document 01's samples with the values it states, and document 02's clerk and his roster,
+   held against both implementations. */
 #include "lending.h"
 #include "reference.h"
 
@@ -21,11 +22,15 @@ enum { DESK_LINES = 256, DESK_SLIPS = 512 };
 struct side {
     const char *name;
     wq_checked (*check)(const uint8_t *, size_t, size_t *, size_t);
-    wq_booked (*book)(const uint8_t *, size_t, uint8_t *, size_t, uint8_t *, size_t, size_t *);
+    wq_booked (*book)(const uint8_t *, size_t, const uint8_t *, size_t, uint8_t *, size_t,
+                      uint8_t *, size_t, size_t *);
+    wq_account_told (*account)(const wq_school *, size_t, const uint8_t *, size_t,
+                               const uint8_t *, size_t);
 };
 
 static const struct side sides[] = {
-    {"reference", ref_check, ref_book}, {"library", wq_check, wq_book}
+    {"reference", ref_check, ref_book, ref_account},
+    {"library", wq_check, wq_book, wq_account}
 };
 
 /* Reading: the record, its answer and place, and the number of fields. */
@@ -59,11 +64,39 @@ static const struct { const char *record; uint64_t answer, figures[5]; } desk_sa
     {Y("          ", "0001", "0004"), 13, {0, 0, 0, 0, 0}}
 };
 
+/* Document 02's clerk typed 43201 for 43210. An order of ten copies, the entries of the
+   roster, and the answer. */
+#define OURS "43210     VD"
+#define OTHER "43210     IB"
+#define TYPED "B10143201     VD24000     VD20240219A-17      9783442756841EN0010ST"
+struct entry { const char *account; uint32_t ceiling; };
+static const struct { const char *record; size_t count; struct entry entries[2]; uint64_t answer; }
+roster_samples[] = {
+    {X END, 1, {{OURS, 500}, {OURS, 0}}, 0},
+    {X END, 0, {{OURS, 500}, {OURS, 0}}, 24},
+    {TYPED END, 1, {{OURS, 500}, {OURS, 0}}, 24},
+    {X END, 1, {{OURS, 10}, {OURS, 0}}, 0},
+    {X END, 1, {{OURS, 9}, {OURS, 10}}, 25},
+    {X END, 2, {{OURS, 10}, {OURS, 9}}, 0},
+    {X END, 2, {{OURS, 9}, {OURS, 10}}, 25},
+    {X END, 2, {{OTHER, 500}, {OTHER, 500}}, 24},
+    {X END, 2, {{OTHER, 9}, {OURS, 10}}, 0}
+};
+
 static void differs(const struct side *side, const char *record, uint64_t answer, uint64_t place)
 {
     printf("SAMPLE: the %s answers %" PRIu64 " at %" PRIu64 " to: %s\n", side->name, answer,
            place, record);
     exit(1);
+}
+
+static wq_school school_of(const struct entry *entry)
+{
+    wq_school school = {{0}, {0}, 0};
+    memcpy(school.address, entry->account, sizeof school.address);
+    memcpy(school.qualifier, entry->account + sizeof school.address, sizeof school.qualifier);
+    school.ceiling = entry->ceiling;
+    return school;
 }
 
 static void run_read_samples(const struct side *side)
@@ -84,12 +117,15 @@ static void run_read_samples(const struct side *side)
 
 static void run_desk_sample(const struct side *side)
 {
+    const struct entry highest = {OURS, WQ_HIGHEST_CEILING};
+    const wq_school ours = school_of(&highest);
     static uint8_t lines[DESK_LINES * IN_LINE], slips[DESK_SLIPS * IN_SLIP];
     size_t used[2] = {0, 0};
     for (size_t i = 0; i < sizeof desk_sample / sizeof desk_sample[0]; i++) {
         const char *record = desk_sample[i].record;
         const uint64_t *wanted = desk_sample[i].figures;
-        wq_booked booked = side->book((const uint8_t *)record, strlen(record), lines,
+        wq_booked booked = side->book((const uint8_t *)record, strlen(record),
+                                      (const uint8_t *)&ours, sizeof ours, lines,
                                       sizeof lines, slips, sizeof slips, used);
         tally.calls++;
         if (booked.answer != desk_sample[i].answer || booked.place != 0
@@ -101,6 +137,40 @@ static void run_desk_sample(const struct side *side)
     insist(used[0] == 1 && used[1] == 3, "the desk sample leaves one line and three slips");
 }
 
+/* The call for the account of an order, on the roster that the order met. */
+static void ask_account(const struct side *side, const wq_school *schools, size_t count,
+                        const char *record, uint64_t answer)
+{
+    const uint8_t *address = (const uint8_t *)record + 4, *qualifier = address + 10;
+    wq_account_told told = side->account(schools, count, address, 10, qualifier, 2);
+    int listed = answer != 24;
+    tally.calls++;
+    insist(told.place == 0 && told.answer == (listed ? 0 : 24), "an account is found as booked");
+    insist(listed ? (told.ceiling < 10) == (answer == 25) : told.ceiling == 0,
+           "an account has the ceiling that was booked by");
+}
+
+/* Each order meets its roster before an empty book. */
+static void run_roster_samples(const struct side *side)
+{
+    uint8_t lines[IN_LINE] = {0}, slips[IN_SLIP] = {0};
+    for (size_t i = 0; i < sizeof roster_samples / sizeof roster_samples[0]; i++) {
+        const char *record = roster_samples[i].record;
+        const wq_school schools[] = {school_of(&roster_samples[i].entries[0]),
+                                     school_of(&roster_samples[i].entries[1])};
+        size_t used[2] = {0, 0}, count = roster_samples[i].count;
+        uint64_t answer = roster_samples[i].answer;
+        wq_booked booked = side->book((const uint8_t *)record, strlen(record),
+                                      (const uint8_t *)schools, count * sizeof schools[0],
+                                      lines, sizeof lines, slips, sizeof slips, used);
+        tally.calls++;
+        if (booked.answer != answer || booked.place != 0 || used[0] != (answer == 0)
+            || booked.still_open != (answer == 0 ? 10 : 0))
+            differs(side, record, booked.answer, booked.place);
+        ask_account(side, schools, count, record, answer);
+    }
+}
+
 void run_samples(void)
 {
     insist(strlen(X END) == 72 && strlen(Y(SLIP, "0001", "0004")) == 113
@@ -108,5 +178,6 @@ void run_samples(void)
     for (size_t i = 0; i < sizeof sides / sizeof sides[0]; i++) {
         run_read_samples(&sides[i]);
         run_desk_sample(&sides[i]);
+        run_roster_samples(&sides[i]);
     }
 }
