@@ -23,9 +23,11 @@ use Rattle.ledger.proofs.Sums.{order-sum, slip-sum}
 use Rattle.ledger.proofs.Slips.{slip-once}
 use Rattle.ledger.proofs.Orders.{figureAt, ordersIn, lines-by-orders}
 use Rattle.book.specs.Lent.{sound}
-use Rattle.book.specs.Booking.{noFigures, refusedAs, book}
+use Rattle.book.specs.Booking.{noFigures, refusedAs}
 use Rattle.book.specs.Asked.{areWide, lineAsked}
 use Rattle.book.specs.declared.answer.Booked.{Booked as Said}
+use Rattle.balance.specs.Met.{Met}
+use Rattle.balance.specs.Calls.{bookCall}
 use Rattle.balance.specs.Told.{told, fitOf}
 use Rattle.balance.specs.Demand3.{isOrder, isDelivery, copiesOn, keyFieldsIn, slipFieldsIn, sameFields, ofSchool, recordsOf, ordersOf, deliveriesOf, deliveriesWith, figuresFor, accounted, came, Given, give, giveAll}
 use Rattle.balance.specs.Joined.{figuresTold, saysOf}
@@ -37,14 +39,14 @@ use Rattle.balance.proofs.Figures.{asked-tells}
 use Rattle.balance.proofs.Lines.{slips-total, answers}
 
 -- every accepted record is fit to book
-one-bookable : (g : Given) (s : List ℕ) → Each Bookable (g .accepted) → Each Bookable (give g s .accepted)
+one-bookable : (g : Given) (s : Met) → Each Bookable (g .accepted) → Each Bookable (give g s .accepted)
 one-bookable g s h = go (refused-or-accepted s (g .book))
   where
-    go : Refuses (book s (g .book)) (g .book) ⊎ Accepts s (g .book) → Each Bookable (give g s .accepted)
+    go : Refuses (bookCall s (g .book)) (g .book) ⊎ Accepts s (g .book) → Each Bookable (give g s .accepted)
     go (inl r) = rw (give-refused g s r) h
     go (inr a) = rw (give-accepted g s a) (each-more Bookable (g .accepted) s h (bookable s (g .book) a))
 
-pub all-bookable : (ss : List (List ℕ)) (g : Given) → Each Bookable (g .accepted) → Each Bookable (giveAll g ss .accepted)
+pub all-bookable : (ss : List Met) (g : Given) → Each Bookable (g .accepted) → Each Bookable (giveAll g ss .accepted)
 unfolding giveAll
 all-bookable [] g h = h
 all-bookable (s ∷ ss) g h = all-bookable ss (give g s) (one-bookable g s h)
@@ -70,7 +72,7 @@ module _ (rooms : Rooms) (g : Given) (kept : Kept (g .book)) (gives : Gives room
   fits = map fitOf (g .accepted)
 
   -- the call by key with a record's own key tells of the line with the key that it was booked with
-  asked-own : (s : List ℕ) → Bookable s → lineAsked (keyFieldsIn s) (g .book) ≡ saysOf (lineWith (keyIn (fitOf s)) (told (g .book) .lines))
+  asked-own : (s : Met) → Bookable s → lineAsked (keyFieldsIn s) (g .book) ≡ saysOf (lineWith (keyIn (fitOf s)) (told (g .book) .lines))
   asked-own s b =
       let k = keyed s b in
       asked-tells (keyFieldsIn s) (g .book) ∙ rw (kept .is-sound, k .wide, k .key-is) refl
@@ -79,18 +81,18 @@ module _ (rooms : Rooms) (g : Given) (kept : Kept (g .book)) (gives : Gives room
   own-booked : (school : List (List ℕ)) → fitsOf (schoolTest school) fits ≡ map fitOf (recordsOf school (g .accepted))
   unfolding fitsOf recordsOf
   own-booked school =
-      keep-mapped Bookable fitOf (λ (r : Fit). schoolTest school (keyIn r)) (λ (s : List ℕ). ofSchool school (keyFieldsIn s))
+      keep-mapped Bookable fitOf (λ (r : Fit). schoolTest school (keyIn r)) (λ (s : Met). ofSchool school (keyFieldsIn s))
       (λ s b. sym (school-in s b school)) (g .accepted) all
 
   pub own-bookable : (school : List (List ℕ)) → Each Bookable (recordsOf school (g .accepted))
   unfolding recordsOf
-  own-bookable school = each-kept Bookable (λ (s : List ℕ). ofSchool school (keyFieldsIn s)) (g .accepted) all
+  own-bookable school = each-kept Bookable (λ (s : Met). ofSchool school (keyFieldsIn s)) (g .accepted) all
 
   -- a figure summed over a school's lines is summed over its orders, as the call by key answers for each
-  summed : (school : List (List ℕ)) (f : Line → ℕ) (h : Figures → ℕ) → h noFigures ≡ 0 → ((l : Line) → h (figuresTold l) ≡ f l)
+  pub summed : (school : List (List ℕ)) (f : Line → ℕ) (h : Figures → ℕ) → h noFigures ≡ 0 → ((l : Line) → h (figuresTold l) ≡ f l)
       → total f (linesOf (schoolTest school) (told (g .book) .lines)) ≡ total (λ s. h (figuresFor (g .book) s)) (ordersOf school (g .accepted))
   summed school f h z same-figure =
-      let own : List (List ℕ) = recordsOf school (g .accepted) in
+      let own : List Met = recordsOf school (g .accepted) in
       let lines : List Line = told (g .book) .lines in
       let booked = ap ordersIn (own-booked school) ∙ keep-mapped Bookable fitOf isOrdering isOrder (λ s b. booked-as s b .ordering) own (own-bookable school) in
       let by-orders : total f (linesOf (schoolTest school) lines) ≡ total (λ r. figureAt f lines (keyIn r)) (ordersIn (fitsOf (schoolTest school) fits)) =
@@ -103,7 +105,7 @@ module _ (rooms : Rooms) (g : Given) (kept : Kept (g .book)) (gives : Gives room
   -- the copies on a school's orders, and on its deliveries, as they were booked
   orders-total : (school : List (List ℕ)) → total copiesOn (ordersOf school (g .accepted)) ≡ total onOrder (fitsOf (schoolTest school) fits)
   orders-total school =
-      let own : List (List ℕ) = recordsOf school (g .accepted) in
+      let own : List Met = recordsOf school (g .accepted) in
       total-keep copiesOn isOrder own
       ∙ total-each Bookable (λ s. pick (isOrder s) (copiesOn s) 0) (λ s. onOrder (fitOf s)) (λ s b. sym (booked-as s b .on-order)) own (own-bookable school)
       ∙ sym (total-map onOrder fitOf own)
@@ -134,7 +136,7 @@ module _ (rooms : Rooms) (g : Given) (kept : Kept (g .book)) (gives : Gives room
   -- each slip once
   pub once : (slip : List (List ℕ)) → length (deliveriesWith slip (g .accepted)) ≤ 1
   once slip =
-      let with : List ℕ → Bool = λ s. isDelivery s && sameFields slip (slipFieldsIn s) in
+      let with : Met → Bool = λ s. isDelivery s && sameFields slip (slipFieldsIn s) in
       split (areWide slipWidths slip)
       (λ w.
       let mine = keep-mapped Bookable fitOf (hasSlip (joined slip)) with (λ s b. sym (rw w at (booked-as s b .slip-in slip))) (g .accepted) all in

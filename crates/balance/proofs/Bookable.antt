@@ -1,4 +1,4 @@
--- What is known of every accepted record: it is read, of a kind that is booked, with copies and a reference; so its key fields have their lengths, and it is booked as its bytes say.
+-- What is known of every accepted record: it is read, of a kind that is booked, with copies and a reference, and its school is on the roster that it met; so its key fields have their lengths, and it is booked as its bytes say.
 use mathlib.Core.Path.{_≡_, refl}
 use mathlib.Core.Bool.{Bool, true, false, _&&_}
 use mathlib.Core.List.{List, [], _∷_}
@@ -17,27 +17,33 @@ use Rattle.reader.proofs.Fitting.{fitting}
 use Rattle.ledger.specs.Book.{schoolOf, ofSchool as schoolIs}
 use Rattle.ledger.specs.History.{keyOf as keyIn, isOrder as isOrdering, onOrder, onSlip, hasSlip}
 use Rattle.book.specs.Lent.{Lent}
-use Rattle.book.specs.Booking.{keyFields, slipFields, lineKey, slipKey, nothingToBook, noCopies, noReference, fieldsIn}
+use Rattle.roster.specs.Roster.{rosterSound, standing}
+use Rattle.roster.specs.declared.Standing.the-variants.{On}
+use Rattle.book.specs.Booking.{keyFields, slipFields, lineKey, slipKey, schoolIn, nothingToBook, noCopies, noReference, fieldsIn}
 use Rattle.book.specs.Asked.{keyWidths, areWide}
+use Rattle.balance.specs.Met.{Met}
 use Rattle.balance.specs.Told.{fitAs, fitKind, fitOf}
 use Rattle.balance.specs.Demand3.{isOrder, isDelivery, copiesOn, keyFieldsIn, slipFieldsIn, sameFields, ofSchool}
 use Rattle.balance.proofs.Accepted.{Accepts}
 use Rattle.balance.proofs.Followed.{fit-passed}
 use Rattle.balance.proofs.Keys.{same-fields, front-two, fields-wide}
 
-pub record Bookable (s : List ℕ) : Type 0 where
+pub record Bookable (s : Met) : Type 0 where
   pub fields : ℕ
-  pub read : judged s ≡ ReadFits fields
+  pub read : judged (s .given) ≡ ReadFits fields
   pub kind : Kind
-  pub known : kindOf s ≡ Known kind
-  pub something : nothingToBook kind s ≡ false
-  pub copies : noCopies kind s ≡ false
-  pub referenced : noReference kind s ≡ false
+  pub known : kindOf (s .given) ≡ Known kind
+  pub something : nothingToBook kind (s .given) ≡ false
+  pub copies : noCopies kind (s .given) ≡ false
+  pub referenced : noReference kind (s .given) ≡ false
+  pub is-roster : rosterSound (s .roster) ≡ true
+  pub ceiling : ℕ
+  pub on-roster : standing (s .roster) (schoolIn kind (s .given)) ≡ On ceiling
 
 -- an accepted record is
-pub bookable : (s : List ℕ) (b : Lent) → Accepts s b → Bookable s
+pub bookable : (s : Met) (b : Lent) → Accepts s b → Bookable s
 bookable s b a =
-    let fit = fit-passed (a .kind) s b (a .place) (a .fits) in
+    let fit = fit-passed (a .kind) (s .given) (s .roster) b (a .place) (a .fits) in
     record {
       fields = a .fields;
       read = a .read;
@@ -46,27 +52,30 @@ bookable s b a =
       something = fit .something;
       copies = fit .copies;
       referenced = fit .referenced;
+      is-roster = a .is-roster;
+      ceiling = fit .ceiling;
+      on-roster = fit .on-roster;
     }
 
 -- the seven fields of a record's key have their lengths, and make the key of its line
-pub record Keyed (s : List ℕ) : Type 0 where
+pub record Keyed (s : Met) : Type 0 where
   pub wide : areWide keyWidths (keyFieldsIn s) ≡ true
   pub key-is : joined (keyFieldsIn s) ≡ keyIn (fitOf s)
 
 -- of a record of a kind that is long enough
-kind-keyed : (s : List ℕ) (k : Kind) → fixedWidth k ≤ length s → nothingToBook k s ≡ false → kindOf s ≡ Known k → Keyed s
+kind-keyed : (s : Met) (k : Kind) → fixedWidth k ≤ length (s .given) → nothingToBook k (s .given) ≡ false → kindOf (s .given) ≡ Known k → Keyed s
 unfolding keyFieldsIn keyFields fitOf fitKind fitAs keyIn lineKey layout all nothingToBook
 kind-keyed s Order h n e =
-    record { wide = rw e (fields-wide Order s h (keyFields Order) refl); key-is = rw e refl }
+    record { wide = rw e (fields-wide Order (s .given) h (keyFields Order) refl); key-is = rw e refl }
 kind-keyed s Goods h n e =
-    record { wide = rw e (fields-wide Goods s h (keyFields Goods) refl); key-is = rw e refl }
+    record { wide = rw e (fields-wide Goods (s .given) h (keyFields Goods) refl); key-is = rw e refl }
 kind-keyed s Closing h n e = absurd (let z : _≡_ {A = ℕ} 0 1 = cc in omega arith)
 kind-keyed s Report h n e =
-    record { wide = rw e (fields-wide Report s h (keyFields Report) refl); key-is = rw e refl }
+    record { wide = rw e (fields-wide Report (s .given) h (keyFields Report) refl); key-is = rw e refl }
 
-pub keyed : (s : List ℕ) → Bookable s → Keyed s
+pub keyed : (s : Met) → Bookable s → Keyed s
 keyed s b =
-    let f = fitting (b .kind) s (b .fields) (b .known) (b .read) in
+    let f = fitting (b .kind) (s .given) (b .fields) (b .known) (b .read) in
     kind-keyed s (b .kind) (omega (arith, f .wide)) (b .something) (b .known)
 
 -- the lengths of a school's fields, and of a slip key's
@@ -81,7 +90,7 @@ abbrev pub schoolTest : List (List ℕ) → List ℕ → Bool
 schoolTest school k = areWide schoolWidths school && schoolIs (joined school) k
 
 -- a record has a school's fields, or a key's, exactly where it is booked with them
-module _ (s : List ℕ) (b : Bookable s) where
+module _ (s : Met) (b : Bookable s) where
   pub school-in : (school : List (List ℕ)) → ofSchool school (keyFieldsIn s) ≡ schoolTest school (keyIn (fitOf s))
   unfolding ofSchool schoolIs schoolOf
   school-in school =
@@ -95,19 +104,19 @@ module _ (s : List ℕ) (b : Bookable s) where
       rw (same-fields keyWidths fields (keyFieldsIn s) (t .wide), t .key-is) refl
 
 -- what a record is booked as, by its kind
-pub record BookedAs (s : List ℕ) : Type 0 where
+pub record BookedAs (s : Met) : Type 0 where
   pub ordering : isOrdering (fitOf s) ≡ isOrder s
   pub on-order : onOrder (fitOf s) ≡ pick (isOrder s) (copiesOn s) 0
   pub on-slip : onSlip (fitOf s) ≡ pick (isDelivery s) (copiesOn s) 0
   pub slip-in : (slip : List (List ℕ)) → isDelivery s && sameFields slip (slipFieldsIn s) ≡ areWide slipWidths slip && hasSlip (joined slip) (fitOf s)
 
 -- a delivery has a slip key's fields exactly where it is booked with that key
-goods-slip : (s : List ℕ) → fixedWidth Goods ≤ length s → (slip : List (List ℕ))
-    → sameFields slip (slipFieldsIn s) ≡ areWide slipWidths slip && same (joined slip) (slipKey s)
+goods-slip : (s : Met) → fixedWidth Goods ≤ length (s .given) → (slip : List (List ℕ))
+    → sameFields slip (slipFieldsIn s) ≡ areWide slipWidths slip && same (joined slip) (slipKey (s .given))
 unfolding slipFieldsIn slipKey layout all
-goods-slip s h slip = rw (same-fields slipWidths slip (fieldsIn Goods slipFields s) (fields-wide Goods s h slipFields refl)) refl
+goods-slip s h slip = rw (same-fields slipWidths slip (fieldsIn Goods slipFields (s .given)) (fields-wide Goods (s .given) h slipFields refl)) refl
 
-kind-booked : (s : List ℕ) (k : Kind) → fixedWidth k ≤ length s → nothingToBook k s ≡ false → kindOf s ≡ Known k → BookedAs s
+kind-booked : (s : Met) (k : Kind) → fixedWidth k ≤ length (s .given) → nothingToBook k (s .given) ≡ false → kindOf (s .given) ≡ Known k → BookedAs s
 unfolding fitOf fitKind fitAs isOrdering onOrder onSlip hasSlip isOrder isDelivery copiesOn nothingToBook
 kind-booked s Order h n e = record { ordering = rw e refl; on-order = rw e refl; on-slip = rw e refl; slip-in = λ slip. rw (e, and-false (areWide slipWidths slip)) refl }
 kind-booked s Goods h n e =
@@ -115,7 +124,7 @@ kind-booked s Goods h n e =
 kind-booked s Closing h n e = absurd (let z : _≡_ {A = ℕ} 0 1 = cc in omega arith)
 kind-booked s Report h n e = record { ordering = rw e refl; on-order = rw e refl; on-slip = rw e refl; slip-in = λ slip. rw (e, and-false (areWide slipWidths slip)) refl }
 
-pub booked-as : (s : List ℕ) → Bookable s → BookedAs s
+pub booked-as : (s : Met) → Bookable s → BookedAs s
 booked-as s b =
-    let f = fitting (b .kind) s (b .fields) (b .known) (b .read) in
+    let f = fitting (b .kind) (s .given) (b .fields) (b .known) (b .read) in
     kind-booked s (b .kind) (omega (arith, f .wide)) (b .something) (b .known)

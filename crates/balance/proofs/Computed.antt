@@ -12,7 +12,8 @@ use Rattle.record.specs.Samples.{X, Y, Z, put}
 use Rattle.entry.specs.Line.{openOf, letGoOf, filledOf, figuresOf}
 use Rattle.ledger.specs.Lists.{keep, total}
 use Rattle.book.specs.Booking.{keyFields, copiesIn, markIn, refusedNumber, refusedPlace, refusedAs, doneAs}
-use Rattle.book.specs.Cases.{printed}
+use Rattle.book.specs.Cases.{schools, printed}
+use Rattle.balance.specs.Met.{Met}
 use Rattle.balance.specs.Demand3.{isOrder, isDelivery, isReport, copiesOn, keyFieldsIn, slipFieldsIn, sameFields, ofSchool, recordsOf, recordsWith, lastMark, lineFrom}
 
 -- the school of the samples, and another with the same reference
@@ -34,26 +35,39 @@ key =
     ∷ bytes "EN"
     ∷ []
 
--- an order of the other school, and the samples that the desk accepts, with this order among them
-abbrev another : List ℕ
-another = put 4 "43211     " X
+-- the samples, each with the roster of the cases
+abbrev meets : List ℕ → Met
+meets s = record { given = s; roster = schools }
 
-abbrev accepted : List (List ℕ)
+abbrev x : Met
+x = meets X
+
+abbrev y : Met
+y = meets Y
+
+abbrev z : Met
+z = meets Z
+
+-- an order of the other school, and the samples that the desk accepts, with this order among them
+abbrev another : Met
+another = meets (put 4 "43211     " X)
+
+abbrev accepted : List Met
 accepted =
-    X
+    x
     ∷ another
-    ∷ Y
-    ∷ Z
-    ∷ put 46 "0002" (put 75 "0003" Y)
-    ∷ put 63 "015J" Z
-    ∷ put 46 "0003" (put 75 "0005" Y)
+    ∷ y
+    ∷ z
+    ∷ meets (put 46 "0002" (put 75 "0003" Y))
+    ∷ meets (put 63 "015J" Z)
+    ∷ meets (put 46 "0003" (put 75 "0005" Y))
     ∷ []
 
 pub record Computed : Type 0 where
-  pub order-key : keyFieldsIn X ≡ key
-  pub delivery-key : keyFieldsIn Y ≡ key
-  pub report-key : keyFieldsIn Z ≡ key
-  pub slip : slipFieldsIn Y
+  pub order-key : keyFieldsIn x ≡ key
+  pub delivery-key : keyFieldsIn y ≡ key
+  pub report-key : keyFieldsIn z ≡ key
+  pub slip : slipFieldsIn y
       ≡ bytes "24000     "
       ∷ bytes "VD"
       ∷ bytes "43210     "
@@ -62,16 +76,16 @@ pub record Computed : Type 0 where
       ∷ bytes "70012345  "
       ∷ bytes "0001"
       ∷ []
-  pub kinds : isOrder X ∷ isDelivery X ∷ isDelivery Y ∷ isReport Y ∷ isReport Z ∷ isOrder Z ∷ []
+  pub kinds : isOrder x ∷ isDelivery x ∷ isDelivery y ∷ isReport y ∷ isReport z ∷ isOrder z ∷ []
       ≡ true ∷ false ∷ true ∷ false ∷ true ∷ false ∷ []
-  pub copies : copiesOn X ∷ copiesOn Y ∷ copiesOn Z ∷ [] ≡ 10 ∷ 4 ∷ 0 ∷ []
-  pub school : ofSchool ours (keyFieldsIn Y) ∷ ofSchool theirs (keyFieldsIn Y) ∷ ofSchool theirs (keyFieldsIn another) ∷ []
+  pub copies : copiesOn x ∷ copiesOn y ∷ copiesOn z ∷ [] ≡ 10 ∷ 4 ∷ 0 ∷ []
+  pub school : ofSchool ours (keyFieldsIn y) ∷ ofSchool theirs (keyFieldsIn y) ∷ ofSchool theirs (keyFieldsIn another) ∷ []
       ≡ true ∷ false ∷ true ∷ []
   pub theirs-alone : recordsOf theirs accepted ≡ another ∷ []
   -- the line of the samples' key: 10 ordered, 12 arrived, the last mark a J; without its order there is none
   pub line : printed (lineFrom (recordsWith key accepted)) ≡ 0 ∷ 10 ∷ 10 ∷ 0 ∷ 0 ∷ 2 ∷ []
-  pub let-go : printed (lineFrom (X ∷ Y ∷ Z ∷ [])) ≡ 0 ∷ 10 ∷ 4 ∷ 0 ∷ 6 ∷ 0 ∷ []
-  pub no-line : printed (lineFrom (Y ∷ Z ∷ [])) ≡ 16 ∷ 0 ∷ 0 ∷ 0 ∷ 0 ∷ 0 ∷ []
+  pub let-go : printed (lineFrom (x ∷ y ∷ z ∷ [])) ≡ 0 ∷ 10 ∷ 4 ∷ 0 ∷ 6 ∷ 0 ∷ []
+  pub no-line : printed (lineFrom (y ∷ z ∷ [])) ≡ 16 ∷ 0 ∷ 0 ∷ 0 ∷ 0 ∷ 0 ∷ []
 
 pub computed : Computed
 unfolding same all belongs allOf ofClass numberFrom layout widthOf startOf kindOf fieldBytes openOf letGoOf filledOf figuresOf keep total keyFields copiesIn markIn refusedNumber refusedPlace refusedAs doneAs isOrder isDelivery isReport copiesOn keyFieldsIn slipFieldsIn sameFields ofSchool recordsOf recordsWith lastMark lineFrom

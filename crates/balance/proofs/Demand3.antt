@@ -19,58 +19,62 @@ use Rattle.ledger.proofs.Histories.{alone}
 use Rattle.ledger.proofs.Gives.{Gives, first-accepted}
 use Rattle.ledger.proofs.Slips.{slip-once}
 use Rattle.book.specs.Lent.{usedLines, usedSlips, lineRoom, slipRoom, sound, roomsSound}
-use Rattle.book.specs.Booking.{refusedAs, book}
+use Rattle.book.specs.Booking.{refusedAs}
 use Rattle.book.specs.Asked.{lineAsked}
 use Rattle.book.specs.declared.answer.Refused.the-variants.{Unsound}
+use Rattle.balance.specs.Met.{Met}
+use Rattle.balance.specs.Calls.{bookCall}
 use Rattle.balance.specs.Told.{told, roomsOf, fitOf}
 use Rattle.balance.specs.Demand3.{keyFieldsIn, sameFields, ofSchool, recordsOf, recordsWith, lineFrom, Given, fresh, give, giveAll, Accounts, Demand3}
 use Rattle.balance.specs.Joined.{stateTold}
 use Rattle.balance.proofs.Soundness.{Kept}
 use Rattle.balance.proofs.Accepted.{Refuses, Accepts, refused-or-accepted}
 use Rattle.balance.proofs.Bookable.{Bookable}
-use Rattle.balance.proofs.Given.{Booked, all-given, unsound-given, fresh-told, give-accepted}
+use Rattle.balance.proofs.Given.{unsound-given, fresh-told, give-accepted}
 use Rattle.balance.proofs.Exactly.{accepted-exactly}
 use Rattle.balance.proofs.Figures.{asked-tells}
 use Rattle.balance.proofs.Followed.{follows}
 use Rattle.balance.proofs.Lines.{answers}
 use Rattle.balance.proofs.Numbers.{numbers-agree}
-use Rattle.balance.proofs.Accounts.{all-bookable, equal-fields, own-bookable, orders-summed, deliveries-summed, once, alone-booked}
+use Rattle.balance.proofs.Ceilings.{ceiling-kept}
+use Rattle.balance.proofs.Stands.{Stands, stands}
+use Rattle.balance.proofs.Accounts.{equal-fields, own-bookable, orders-summed, deliveries-summed, once, alone-booked}
 
 -- the given state after a record that was accepted
-abbrev after : Given → List ℕ → Given
-after g s = record { book = book s (g .book) .lent; accepted = g .accepted ++ (s ∷ []) }
+abbrev after : Given → Met → Given
+after g s = record { book = bookCall s (g .book) .lent; accepted = g .accepted ++ (s ∷ []) }
 
 -- what it tells is the told state after that record
-after-told : (rooms : Rooms) (g : Given) (s : List ℕ) → Kept (g .book) → Accepts s (g .book) → judge rooms (told (g .book)) (fitOf s) ≡ done
+after-told : (rooms : Rooms) (g : Given) (s : Met) → Kept (g .book) → Accepts s (g .book) → judge rooms (told (g .book)) (fitOf s) ≡ done
     → booking rooms (stateTold g) (fitOf s) ≡ stateTold (after g s)
 unfolding booking settle
 after-told rooms g s kept a e =
     rw e (λ i. record { book = sym (follows s (g .book) kept a .tells) i; accepted = sym (map-append fitOf (g .accepted) (s ∷ [])) i })
 
 -- records that the told book accepts one after the other answer 0 one after the other
-abbrev AllAccepted : Rooms → List (List ℕ) → Given → Type 0
+abbrev AllAccepted : Rooms → List Met → Given → Type 0
 AllAccepted rooms ss g = bookings rooms (stateTold g) (map fitOf ss) .accepted ≡ map fitOf (g .accepted) ++ map fitOf ss
 
-rest-accepted : (rooms : Rooms) (s : List ℕ) (ss : List (List ℕ)) (g : Given) → Kept (g .book) → Accepts s (g .book) → AllAccepted rooms (s ∷ ss) g
+rest-accepted : (rooms : Rooms) (s : Met) (ss : List Met) (g : Given) → Kept (g .book) → Accepts s (g .book) → AllAccepted rooms (s ∷ ss) g
     → AllAccepted rooms ss (after g s)
 unfolding bookings
 rest-accepted rooms s ss g kept a e =
     let passes = first-accepted rooms (fitOf s) (map fitOf ss) (stateTold g) e in
     rw (← after-told rooms g s kept a passes, map-append fitOf (g .accepted) (s ∷ []), append-assoc (map fitOf (g .accepted)) (fitOf s ∷ []) (map fitOf ss)) e
 
-pub all-answered : (rooms : Rooms) (ss : List (List ℕ)) (g : Given) → Kept (g .book) → roomsOf (g .book) ≡ rooms → Each Bookable ss → AllAccepted rooms ss g
+pub all-answered : (rooms : Rooms) (ss : List Met) (g : Given) → Kept (g .book) → roomsOf (g .book) ≡ rooms → Each Bookable ss → AllAccepted rooms ss g
     → giveAll g ss .accepted ≡ g .accepted ++ ss
 unfolding giveAll
 all-answered rooms [] g kept lent h e = sym (append-nil (g .accepted))
 all-answered rooms (s ∷ ss) g kept lent h e = go (refused-or-accepted s (g .book)) (all-answered rooms ss)
   where
-    answered : book s (g .book) .said .answer ≡ 0
+    answered : bookCall s (g .book) .said .answer ≡ 0
     answered =
         let b = h .0 in
-        numbers-agree s (g .book) (b .fields) (b .kind) (kept .is-sound) (b .read) (b .known) (b .something) (b .copies) (b .referenced)
+        numbers-agree s (g .book) (b .fields) (b .kind) (b .ceiling) (b .is-roster) (kept .is-sound) (b .read) (b .known) (b .something) (b .copies) (b .referenced) (b .on-roster)
         ∙ rw (lent, first-accepted rooms (fitOf s) (map fitOf ss) (stateTold g) e) refl
 
-    go : Refuses (book s (g .book)) (g .book) ⊎ Accepts s (g .book)
+    go : Refuses (bookCall s (g .book)) (g .book) ⊎ Accepts s (g .book)
         → ((n : Given) → Kept (n .book) → roomsOf (n .book) ≡ rooms → Each Bookable ss → AllAccepted rooms ss n → giveAll n ss .accepted ≡ n .accepted ++ ss)
         → giveAll (give g s) ss .accepted ≡ g .accepted ++ (s ∷ ss)
     go (inl r) rest = absurd (r .answer answered)
@@ -90,22 +94,8 @@ fresh-rooms : (lines slips lines′ slips′ : List ℕ) → length lines′ ≡
 unfolding roomsOf lineRoom slipRoom
 fresh-rooms lines slips lines′ slips′ l s = rw (l, s) refl
 
--- what is known after records were given to sound rooms with nothing used
-pub record Stands (lines slips : List ℕ) (g : Given) : Type 0 where
-  pub kept : Kept (g .book)
-  pub gives : Gives (roomsOf (fresh lines slips .book)) (map fitOf (g .accepted)) (told (g .book))
-  pub fit-to-book : Each Bookable (g .accepted)
-
-stands : (lines slips : List ℕ) (records : List (List ℕ)) → sound (fresh lines slips .book) ≡ true → Stands lines slips (giveAll (fresh lines slips) records)
-stands lines slips records e =
-    let g : Given = fresh lines slips in
-    let rooms : Rooms = roomsOf (g .book) in
-    let start : Booked rooms [] g = record { kept = record { is-sound = e; counts = refl }; lent = refl; tells = fresh-told rooms lines slips } in
-    let end = all-given rooms [] records g start in
-    record { kept = end .kept; gives = end .tells; fit-to-book = all-bookable records g tt }
-
 -- each key's answer, in rooms of any size
-every-answer : (lines slips : List ℕ) (records : List (List ℕ)) (fields : List (List ℕ))
+every-answer : (lines slips : List ℕ) (records : List Met) (fields : List (List ℕ))
     → lineAsked fields (giveAll (fresh lines slips) records .book)
     ≡ pick (sound (fresh lines slips .book)) (lineFrom (recordsWith fields (giveAll (fresh lines slips) records .accepted))) (refusedAs Unsound)
 every-answer lines slips records fields =
@@ -117,7 +107,7 @@ every-answer lines slips records fields =
     (λ e. rw (unsound-given records g e) (asked-tells fields (g .book) ∙ rw e refl))
 
 -- of records given to rooms
-module _ (lines slips : List ℕ) (records : List (List ℕ)) where
+module _ (lines slips : List ℕ) (records : List Met) where
   abbrev end : Given
   end = giveAll (fresh lines slips) records
 
@@ -131,7 +121,7 @@ module _ (lines slips : List ℕ) (records : List (List ℕ)) where
       split (sound (g .book))
       (λ e.
       let h = stands lines slips records e in
-      let own : List (List ℕ) = recordsOf school (end .accepted) in
+      let own : List Met = recordsOf school (end .accepted) in
       let kept : Kept (fresh lines′ slips′ .book) = record { is-sound = fresh-sound lines slips lines′ slips′ l s ∙ e; counts = refl } in
       all-answered rooms own (fresh lines′ slips′) kept (fresh-rooms lines slips lines′ slips′ l s)
       (own-bookable rooms end (h .kept) (h .gives) (h .fit-to-book) school)
@@ -144,8 +134,8 @@ module _ (lines slips : List ℕ) (records : List (List ℕ)) where
       → lineAsked fields (giveAll (fresh lines′ slips′) (recordsOf school (end .accepted)) .book) ≡ lineAsked fields (end .book)
   unfolding recordsWith recordsOf
   alone-answers school lines′ slips′ l s fields own =
-      let mine : List ℕ → Bool = λ r. sameFields fields (keyFieldsIn r) in
-      let theirs : List ℕ → Bool = λ r. ofSchool school (keyFieldsIn r) in
+      let mine : Met → Bool = λ r. sameFields fields (keyFieldsIn r) in
+      let theirs : Met → Bool = λ r. ofSchool school (keyFieldsIn r) in
       let inside = keep-within mine theirs (λ r e. let d = equal-fields fields (keyFieldsIn r) e in rw (← d) own) (end .accepted) in
       every-answer lines′ slips′ (recordsOf school (end .accepted)) fields
       ∙ rw (alone-accepted school lines′ slips′ l s, fresh-sound lines slips lines′ slips′ l s, inside) (sym (every-answer lines slips records fields))
@@ -183,5 +173,6 @@ pub demand3 : Demand3
 demand3 =
     record {
       accepted-exactly = accepted-exactly;
+      ceiling-kept = ceiling-kept;
       accounts = λ lines slips records. split (sound (fresh lines slips .book)) (sound-accounts lines slips records) (unsound-accounts lines slips records);
     }

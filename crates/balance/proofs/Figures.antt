@@ -22,11 +22,12 @@ use Rattle.ledger.specs.Booking.{newLine as newTold, arrive, tell, changeLine, 
 use Rattle.ledger.specs.History.{keyOf as keyIn}
 use Rattle.ledger.proofs.Parts.{arrive-key, tell-key}
 use Rattle.book.specs.Lent.{Lent, findLine, findSlip}
-use Rattle.book.specs.Booking.{lineKey, slipKey, copiesIn, markIn, bookJudged, newLine, lineAfter, doneAs, book}
+use Rattle.book.specs.Booking.{lineKey, slipKey, schoolIn, copiesIn, markIn, bookJudged, newLine, lineAfter, doneAs}
 use Rattle.book.specs.Asked.{figuresAt, figuresOfKey, lineAsked}
 use Rattle.book.specs.declared.answer.Verdict.the-variants.{Fits}
 use Rattle.cells.specs.declared.search.Found.{Found}
 use Rattle.cells.specs.declared.search.Found.the-variants.{At, Nothing}
+use Rattle.balance.specs.Calls.{bookCall}
 use Rattle.balance.specs.Told.{reportOf, lineTold, told, holdOf, fitAs, fitKind, fitOf}
 use Rattle.balance.specs.Demand3.{keyFieldsIn}
 use Rattle.balance.specs.Joined.{figuresTold, saysOf, AskedTells, BookedTells}
@@ -82,9 +83,9 @@ module _ {A : Type 0} (q : A → Bool) where
       split (q b) (λ t. let d : b ≡ a = cc in rw (t, h b, t) (ap (λ (x : A). some (f x)) d)) (λ t. rw (t, t) (first-changed f h l a (rw t at e)))
 
 -- a record that was accepted, entered in the told book: its line is found there by its key, and is what booking says
-module _ (s : List ℕ) (b : Lent) (i : ℕ) where
+module _ (s roster : List ℕ) (b : Lent) (i : ℕ) where
   said-order : findLine b (lineKey Order s) ≡ Nothing
-      → doneAs (lineAfter Order s b i) ≡ saysOf (lineWith (lineKey Order s) (enter (told b) (fitAs Order s) .lines))
+      → doneAs (lineAfter Order s b i) ≡ saysOf (lineWith (lineKey Order s) (enter (told b) (fitAs Order s roster) .lines))
   unfolding lineAfter newLine fitAs enter lineWith lineOf reportOf
   said-order e =
       let key : Key = lineKey Order s in
@@ -102,38 +103,38 @@ module _ (s : List ℕ) (b : Lent) (i : ℕ) where
       ∙ ap saysOf (ap some d ∙ sym (first-changed q f (λ l. ap (same key) (h l)) (told b .lines) (lineTold (b .lines) i) (line-found b key i e)))
 
   said-goods : findLine b (lineKey Goods s) ≡ At i
-      → doneAs (lineAfter Goods s b i) ≡ saysOf (lineWith (lineKey Goods s) (enter (told b) (fitAs Goods s) .lines))
+      → doneAs (lineAfter Goods s b i) ≡ saysOf (lineWith (lineKey Goods s) (enter (told b) (fitAs Goods s roster) .lines))
   unfolding lineAfter fitAs enter
   said-goods e =
       said-changed (lineKey Goods s) (withArrivals (copiesIn Goods s) (lineAt (b .lines) i)) (arrive (copiesIn Goods s .0)) (arrive-key (copiesIn Goods s .0)) e
       (line-arrives (b .lines) i (copiesIn Goods s))
 
   said-report : findLine b (lineKey Report s) ≡ At i
-      → doneAs (lineAfter Report s b i) ≡ saysOf (lineWith (lineKey Report s) (enter (told b) (fitAs Report s) .lines))
+      → doneAs (lineAfter Report s b i) ≡ saysOf (lineWith (lineKey Report s) (enter (told b) (fitAs Report s roster) .lines))
   unfolding lineAfter fitAs enter
   said-report e =
       said-changed (lineKey Report s) (withMark (markIn s) (lineAt (b .lines) i)) (tell (record { hold = holdOf (markIn s) })) (tell-key (record { hold = holdOf (markIn s) })) e
       (line-reported (b .lines) i (markIn s) (holdOf (markIn s)) (report-mark s))
 
-  said-kind : (k : Kind) → bookJudged k s b ≡ Fits i
-      → doneAs (lineAfter k s b i) ≡ saysOf (lineWith (keyIn (fitAs k s)) (enter (told b) (fitAs k s) .lines))
+  said-kind : (k : Kind) (ceiling : ℕ) → bookJudged k s ceiling b ≡ Fits i
+      → doneAs (lineAfter k s b i) ≡ saysOf (lineWith (keyIn (fitAs k s roster)) (enter (told b) (fitAs k s roster) .lines))
   unfolding bookJudged keyIn fitAs
-  said-kind Order e = said-order (order-fits b i (findLine b (lineKey Order s)) e .0)
-  said-kind Goods e = said-goods (delivery-fits b i (lineKey Goods s) (copiesIn Goods s) (findSlip b (slipKey s)) e .1 .0)
-  said-kind Closing e = let z : _≡_ {A = ℕ} 0 1 = cc in absurd (omega arith)
-  said-kind Report e = said-report (report-fits b i (findLine b (lineKey Report s)) e)
+  said-kind Order ceiling e = said-order (order-fits b i (schoolIn Order s) (copiesIn Order s) ceiling (findLine b (lineKey Order s)) e .0)
+  said-kind Goods ceiling e = said-goods (delivery-fits b i (lineKey Goods s) (copiesIn Goods s) (findSlip b (slipKey s)) e .1 .0)
+  said-kind Closing ceiling e = let z : _≡_ {A = ℕ} 0 1 = cc in absurd (omega arith)
+  said-kind Report ceiling e = said-report (report-fits b i (findLine b (lineKey Report s)) e)
 
 -- where booking answers 0, the call by key says the same of the record's own key
 pub booked-tells : BookedTells
 booked-tells s b two e = go (refused-or-accepted s b)
   where
-    go : Refuses (book s b) b ⊎ Accepts s b → lineAsked (keyFieldsIn s) (book s b .lent) ≡ book s b .said
+    go : Refuses (bookCall s b) b ⊎ Accepts s b → lineAsked (keyFieldsIn s) (bookCall s b .lent) ≡ bookCall s b .said
     go (inl r) = absurd (r .answer e)
     go (inr a) =
         let f = follows s b (record { is-sound = a .is-sound; counts = two }) a in
         let k : Kind = a .kind in
         let t = keyed s (bookable s b a) in
-        let j = fit-passed k s b (a .place) (a .fits) .judged-fit in
-        asked-tells (keyFieldsIn s) (book s b .lent)
+        let j = fit-passed k (s .given) (s .roster) b (a .place) (a .fits) in
+        asked-tells (keyFieldsIn s) (bookCall s b .lent)
         ∙ rw (f .kept .is-sound, t .wide, t .key-is, f .tells)
-        (sym (a .said ∙ said-kind s b (a .place) k j ∙ unfold fitOf in unfold fitKind in rw (a .known) refl))
+        (sym (a .said ∙ said-kind (s .given) (s .roster) b (a .place) k (j .ceiling) (j .judged-fit) ∙ unfold fitOf in unfold fitKind in rw (a .known) refl))

@@ -21,11 +21,16 @@ use Rattle.entry.specs.declared.line.Mark.{Mark}
 use Rattle.entry.specs.declared.line.Line.{Line as Stored}
 use Rattle.entry.proofs.Sound.{Bounded, sound-bounded}
 use Rattle.entry.proofs.Kept.{put-key}
-use Rattle.ledger.specs.Book.{Key, Hold, Line, Slip}
+use Rattle.roster.specs.Roster.{standing}
+use Rattle.roster.specs.declared.Standing.{Standing}
+use Rattle.roster.specs.declared.Standing.the-variants.{On, Off}
+use Rattle.ledger.specs.Book.{Key, schoolOf, Hold, Line, Slip}
 use Rattle.ledger.specs.Booking.{Fit, order as ordering, goods as arriving, report as telling, done, judge, arrive, tell, changeLine, enter}
-use Rattle.book.specs.Lent.{Lent, usedLines, usedSlips, lineRoom, slipRoom, findLine, findSlip}
-use Rattle.book.specs.Booking.{lineKey, slipKey, copiesIn, markIn, nothingToBook, noCopies, noReference, orderJudged, slipJudged, arrivalJudged, goodsJudged, deliveryJudged, reportJudged, bookJudged, fitJudged, newLine, lineAfter, lentAfter, book}
-use Rattle.balance.specs.Told.{reportOf, lineTold, told, roomsOf, holdOf, fitAs, fitKind, fitOf}
+use Rattle.book.specs.Lent.{Lent, usedLines, usedSlips, lineRoom, slipRoom, findLine, findSlip, openCopies}
+use Rattle.book.specs.Booking.{lineKey, slipKey, schoolIn, copiesIn, markIn, nothingToBook, noCopies, noReference, newLineJudged, orderJudged, slipJudged, arrivalJudged, goodsJudged, deliveryJudged, reportJudged, bookJudged, onRoster, fitJudged, newLine, lineAfter, lentAfter}
+use Rattle.balance.specs.Met.{Met}
+use Rattle.balance.specs.Calls.{bookCall}
+use Rattle.balance.specs.Told.{reportOf, lineTold, told, roomsOf, holdOf, ceilingIn, fitAs, fitKind, fitOf}
 use Rattle.cells.specs.declared.search.Found.{Found}
 use Rattle.cells.specs.declared.search.Found.the-variants.{At, Nothing}
 use Rattle.book.specs.declared.answer.Refused.{Refused}
@@ -38,7 +43,9 @@ use Rattle.balance.proofs.Soundness.{Kept}
 use Rattle.book.proofs.Fields.{order-key, slip-key-width, order-copies, goods-copies}
 use Rattle.balance.proofs.Accepted.{Accepts}
 use Rattle.balance.proofs.Entered.{lineOf, withLine, put-here, put-other, put-slips, put-rooms, put-kept, moreLine, add-lines, add-slips, add-rooms, add-kept, moreSlip, slip-lines, slip-slips, slip-rooms, slip-kept}
-use Rattle.balance.proofs.Found.{key-told, line-used, order-passes, goods-passes, report-passes}
+use Rattle.balance.proofs.Found.{key-told, line-used, goods-passes, report-passes}
+use Rattle.balance.proofs.Keys.{school-heads}
+use Rattle.balance.proofs.Opens.{order-passes}
 
 -- a verdict that fits after a test that refuses: the test does not hold, and the rest fits
 pub passed : (t : Bool) (r : Refused) (v : Verdict) (i : ℕ) → pick t (Refuse r) v ≡ Fits i → (t ≡ false) × (v ≡ Fits i)
@@ -50,30 +57,41 @@ let-pass : (t : Bool) (v : Verdict) (r : Refused) (i : ℕ) → pick t v (Refuse
 let-pass true v r i e = (refl, e)
 let-pass false v r i e = let z : _≡_ {A = ℕ} 0 1 = cc in absurd (omega arith)
 
--- a record that fits has something to book, copies and a reference, and fits the book
-pub record FitPassed (k : Kind) (s : List ℕ) (b : Lent) (i : ℕ) : Type 0 where
+-- a record that fits has something to book, copies and a reference, a school on the roster, and fits the book
+pub record FitPassed (k : Kind) (s roster : List ℕ) (b : Lent) (i : ℕ) : Type 0 where
   pub something : nothingToBook k s ≡ false
   pub copies : noCopies k s ≡ false
   pub referenced : noReference k s ≡ false
-  pub judged-fit : bookJudged k s b ≡ Fits i
+  pub ceiling : ℕ
+  pub on-roster : standing roster (schoolIn k s) ≡ On ceiling
+  pub judged-fit : bookJudged k s ceiling b ≡ Fits i
 
-pub fit-passed : (k : Kind) (s : List ℕ) (b : Lent) (i : ℕ) → fitJudged k s b ≡ Fits i → FitPassed k s b i
+pub fit-passed : (k : Kind) (s roster : List ℕ) (b : Lent) (i : ℕ) → fitJudged k s roster b ≡ Fits i → FitPassed k s roster b i
 unfolding fitJudged
-fit-passed k s b i e =
+fit-passed k s roster b i e =
     let one = passed (nothingToBook k s) _ _ i e in
     let two = passed (noCopies k s) _ _ i (one .1) in
     let three = passed (noReference k s) _ _ i (two .1) in
-    record { something = one .0; copies = two .0; referenced = three .0; judged-fit = three .1 }
+    go (one .0) (two .0) (three .0) (standing roster (schoolIn k s)) refl (three .1)
+  where
+    go : nothingToBook k s ≡ false → noCopies k s ≡ false → noReference k s ≡ false
+        → (t : Standing) → standing roster (schoolIn k s) ≡ t → onRoster k s b t ≡ Fits i → FitPassed k s roster b i
+    go one two three Off h q = unfold onRoster in let z : _≡_ {A = ℕ} 0 1 = cc in absurd (omega arith)
+    go one two three (On ceiling) h q =
+        unfold onRoster in record { something = one; copies = two; referenced = three; ceiling = ceiling; on-roster = h; judged-fit = q }
 
 module _ (b : Lent) (i : ℕ) where
-  -- an order that fits: no line has its key, and there is room for the next
-  pub order-fits : (f : Found) → orderJudged b f ≡ Fits i → (f ≡ Nothing) × ((usedLines b < lineRoom b) × (i ≡ usedLines b))
-  unfolding orderJudged
-  order-fits (At j) e = let z : _≡_ {A = ℕ} 0 1 = cc in absurd (omega arith)
-  order-fits Nothing e =
-      let p = let-pass (ltb (usedLines b) (lineRoom b)) _ _ i e in
+  -- an order that fits: no line has its key, its copies keep the ceiling, and there is room for the next line
+  pub order-fits : (school : List ℕ) (copies : Copies) (ceiling : ℕ) (f : Found) → orderJudged b school copies ceiling f ≡ Fits i
+      → (f ≡ Nothing) × ((openCopies b school + copies .0 ≤ ceiling) × ((usedLines b < lineRoom b) × (i ≡ usedLines b)))
+  unfolding orderJudged newLineJudged
+  order-fits school copies ceiling (At j) e = let z : _≡_ {A = ℕ} 0 1 = cc in absurd (omega arith)
+  order-fits school copies ceiling Nothing e =
+      let n : ℕ = openCopies b school + copies .0 in
+      let below = let-pass (leb n ceiling) _ _ i e in
+      let p = let-pass (ltb (usedLines b) (lineRoom b)) _ _ i (below .1) in
       let q = p .1 in
-      (refl, (ltb-true (usedLines b) (lineRoom b) (p .0), cc))
+      (refl, (leb-true n ceiling (below .0), (ltb-true (usedLines b) (lineRoom b) (p .0), cc)))
 
   -- a delivery that fits: no slip has its key, a line has its line key, and there is room for its copies and its slip
   arrival-fits : (copies : Copies) (j : ℕ) → arrivalJudged b copies j ≡ Fits i
@@ -128,13 +146,13 @@ module _ (b : Lent) (key : Key) (i : ℕ) (l : Stored) (h : Line → Line) (k : 
 
 -- an order is entered
 module _ (b : Lent) (key : Key) (copies : Copies) (k : Kept b) (wide : length key ≡ keyWidth) (least : 1 ≤ copies .0) (most : copies .0 ≤ mostCopies) where
-  order-entered : findLine b key ≡ Nothing → usedLines b < lineRoom b
-      → Follows b (ordering key (record { copies = copies .0 })) (moreLine b key (newLine copies))
+  order-entered : (ceiling : ℕ) → findLine b key ≡ Nothing → openCopies b (schoolOf key) + copies .0 ≤ ceiling → usedLines b < lineRoom b
+      → Follows b (ordering key (record { copies = copies .0 }) ceiling) (moreLine b key (newLine copies))
   unfolding enter newLine lineOf reportOf
-  order-entered e room =
+  order-entered ceiling e below room =
       let bounded : Bounded (newLine copies) = record { least = least; most = most; sum = omega arith } in
       record {
-        allowed = order-passes b key (record { copies = copies .0 }) e room;
+        allowed = order-passes b key (record { copies = copies .0 }) ceiling e below room;
         tells = λ x. record {
           lines = add-lines b key (newLine copies) k room wide bounded x;
           slips = add-slips b key (newLine copies) k room wide bounded x;
@@ -216,41 +234,47 @@ pub report-mark : (s : List ℕ) → reportOf (markIn s) ≡ some (record { hold
 unfolding markIn reportOf holdOf
 report-mark s = split (same (fieldBytes Report 10 s) (bytes "J")) (λ e. rw e) (λ e. rw e)
 
-module _ (s : List ℕ) (b : Lent) (i n : ℕ) (k : Kept b) where
-  order-follows : Fitting Order s n → fitJudged Order s b ≡ Fits i → Follows b (fitAs Order s) (lentAfter Order s b i)
-  unfolding fitAs lentAfter lineAfter noCopies bookJudged
+module _ (s roster : List ℕ) (b : Lent) (i n : ℕ) (k : Kept b) where
+  order-follows : Fitting Order s n → fitJudged Order s roster b ≡ Fits i → Follows b (fitAs Order s roster) (lentAfter Order s b i)
+  unfolding fitAs lentAfter lineAfter noCopies bookJudged ceilingIn
   order-follows fit e =
-      let p = fit-passed Order s b i e in
-      let q = order-fits b i (findLine b (lineKey Order s)) (p .judged-fit) in
+      let p = fit-passed Order s roster b i e in
+      let q = order-fits b i (schoolIn Order s) (copiesIn Order s) (p .ceiling) (findLine b (lineKey Order s)) (p .judged-fit) in
       let ne = eqb-false (copiesIn Order s .0) 0 (p .copies) in
-      let d = q .1 .1 in
-      rw d (order-entered b (lineKey Order s) (copiesIn Order s) k (order-key s n fit) (omega arith) (order-copies s n fit) (q .0) (q .1 .0))
+      let heads = school-heads s (omega (arith, fit .wide)) in
+      let below : openCopies b (schoolOf (lineKey Order s)) + copiesIn Order s .0 ≤ p .ceiling = rw heads at (q .1 .0) in
+      let d = q .1 .1 .1 in
+      rw (d, p .on-roster)
+      (order-entered b (lineKey Order s) (copiesIn Order s) k (order-key s n fit) (omega arith) (order-copies s n fit) (p .ceiling) (q .0) below (q .1 .1 .0))
 
-  goods-follows : Fitting Goods s n → fitJudged Goods s b ≡ Fits i → Follows b (fitAs Goods s) (lentAfter Goods s b i)
+  goods-follows : Fitting Goods s n → fitJudged Goods s roster b ≡ Fits i → Follows b (fitAs Goods s roster) (lentAfter Goods s b i)
   unfolding fitAs lentAfter lineAfter bookJudged usedSlips
   goods-follows fit e =
-      let p = fit-passed Goods s b i e in
+      let p = fit-passed Goods s roster b i e in
       let q = delivery-fits b i (lineKey Goods s) (copiesIn Goods s) (findSlip b (slipKey s)) (p .judged-fit) in
       goods-entered b (lineKey Goods s) (slipKey s) (copiesIn Goods s) i k (slip-key-width s n fit) (goods-copies s n fit) (q .0) (q .1 .0) (q .1 .1 .0) (q .1 .1 .1)
 
-  report-follows : fitJudged Report s b ≡ Fits i → Follows b (fitAs Report s) (lentAfter Report s b i)
+  report-follows : fitJudged Report s roster b ≡ Fits i → Follows b (fitAs Report s roster) (lentAfter Report s b i)
   unfolding fitAs lentAfter lineAfter bookJudged
   report-follows e =
-      let p = fit-passed Report s b i e in
+      let p = fit-passed Report s roster b i e in
       report-entered b (lineKey Report s) (markIn s) (holdOf (markIn s)) i k (report-mark s) (report-fits b i (findLine b (lineKey Report s)) (p .judged-fit))
 
   -- a record of any kind; a closing record never fits
-  kind-follows : (j : Kind) → Fitting j s n → fitJudged j s b ≡ Fits i → Follows b (fitAs j s) (lentAfter j s b i)
+  kind-follows : (j : Kind) → Fitting j s n → fitJudged j s roster b ≡ Fits i → Follows b (fitAs j s roster) (lentAfter j s b i)
   kind-follows Order fit e = order-follows fit e
   kind-follows Goods fit e = goods-follows fit e
-  kind-follows Closing fit e = closing-never (fit-passed Closing s b i e .judged-fit)
+  kind-follows Closing fit e =
+      let p = fit-passed Closing s roster b i e in
+      closing-never (p .ceiling) (p .judged-fit)
     where
-      closing-never : bookJudged Closing s b ≡ Fits i → Follows b (fitAs Closing s) (lentAfter Closing s b i)
-      closing-never e = unfold bookJudged in let z : _≡_ {A = ℕ} 0 1 = cc in absurd (omega arith)
+      closing-never : (ceiling : ℕ) → bookJudged Closing s ceiling b ≡ Fits i → Follows b (fitAs Closing s roster) (lentAfter Closing s b i)
+      closing-never ceiling e = unfold bookJudged in let z : _≡_ {A = ℕ} 0 1 = cc in absurd (omega arith)
   kind-follows Report fit e = report-follows e
 
 -- a record that is accepted
-pub follows : (s : List ℕ) (b : Lent) → Kept b → (a : Accepts s b) → Follows b (fitOf s) (book s b .lent)
+pub follows : (s : Met) (b : Lent) → Kept b → (a : Accepts s b) → Follows b (fitOf s) (bookCall s b .lent)
 unfolding fitOf fitKind
 follows s b k a =
-    rw (a .known, a .lent) (kind-follows s b (a .place) (a .fields) k (a .kind) (fitting (a .kind) s (a .fields) (a .known) (a .read)) (a .fits))
+    rw (a .known, a .lent)
+    (kind-follows (s .given) (s .roster) b (a .place) (a .fields) k (a .kind) (fitting (a .kind) (s .given) (a .fields) (a .known) (a .read)) (a .fits))

@@ -11,9 +11,9 @@ use Rattle.cells.proofs.Bools.{split}
 use Rattle.cells.proofs.Lists.{same-true}
 use Rattle.entry.specs.Stored.{mostArrived, lineAt, keyAt, keyIs, slipKeyAt, slipIs}
 use Rattle.ledger.specs.Lists.{given, found}
-use Rattle.ledger.specs.Book.{Key, Order, Goods, Report}
-use Rattle.ledger.specs.Booking.{order, goods, report, done, firstOf, tests, judge, mostArrived as limit, lineAt as lineWith, slipAt as slipWith}
-use Rattle.book.specs.Lent.{Lent, usedLines, usedSlips, lineRoom, slipRoom, findLine, findSlip}
+use Rattle.ledger.specs.Book.{Key, Goods, Report}
+use Rattle.ledger.specs.Booking.{goods, report, done, firstOf, tests, judge, mostArrived as limit, lineAt as lineWith, slipAt as slipWith}
+use Rattle.book.specs.Lent.{Lent, usedLines, usedSlips, slipRoom, findLine, findSlip}
 use Rattle.balance.specs.Told.{lineTold, slipTold, told, roomsOf}
 use Rattle.cells.specs.declared.search.Found.the-variants.{At, Nothing}
 use Rattle.cells.proofs.Searches.{found-at}
@@ -74,13 +74,8 @@ pub slips-told : (b : Lent) → length (told b .slips) ≡ usedSlips b
 unfolding told
 slips-told b = listed-length (slipTold (b .lines) (b .slips)) (usedSlips b) 0
 
--- what the bytes let pass, the told book lets pass: an order
+-- what the bytes let pass, the told book lets pass: a delivery
 module _ (b : Lent) (key : Key) where
-  pub order-passes : (o : Order) → findLine b key ≡ Nothing → usedLines b < lineRoom b → judge (roomsOf b) (told b) (order key o) ≡ done
-  unfolding judge tests firstOf found roomsOf
-  order-passes o e h = rw (no-line b key e, lines-told b, lt-leb (lineRoom b) (usedLines b) h)
-
-  -- a delivery
   pub goods-passes : (g : Goods) (i : ℕ) → findSlip b (g .slip) ≡ Nothing → findLine b key ≡ At i → lineAt (b .lines) i .arrived .0 + g .copies ≤ mostArrived → usedSlips b < slipRoom b
       → judge (roomsOf b) (told b) (goods key g) ≡ done
   unfolding judge tests firstOf given found roomsOf limit lineTold

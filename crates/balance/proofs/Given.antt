@@ -13,7 +13,8 @@ use Rattle.ledger.specs.Demand3.{Promise3}
 use Rattle.ledger.proofs.Gives.{Gives, gives-more}
 use Rattle.ledger.proofs.Demand3.{promise3}
 use Rattle.book.specs.Lent.{usedLines, usedSlips, sound}
-use Rattle.book.specs.Booking.{book}
+use Rattle.balance.specs.Met.{Met}
+use Rattle.balance.specs.Calls.{bookCall}
 use Rattle.balance.specs.Told.{listed, told, roomsOf, fitOf}
 use Rattle.balance.specs.Demand3.{Given, fresh, give, giveAll}
 use Rattle.balance.specs.Joined.{stateTold, ToldDemand3}
@@ -28,19 +29,19 @@ pub record Booked (rooms : Rooms) (earlier : List Fit) (g : Given) : Type 0 wher
   pub tells : Gives rooms (earlier ++ map fitOf (g .accepted)) (told (g .book))
 
 -- a record that is refused changes nothing
-pub give-refused : (g : Given) (s : List ℕ) → Refuses (book s (g .book)) (g .book) → give g s ≡ g
+pub give-refused : (g : Given) (s : Met) → Refuses (bookCall s (g .book)) (g .book) → give g s ≡ g
 unfolding give
-give-refused g s r = rw (ne-eqb (book s (g .book) .said .answer) 0 (r .answer), r .lent)
+give-refused g s r = rw (ne-eqb (bookCall s (g .book) .said .answer) 0 (r .answer), r .lent)
 
 -- a record that answers 0 is one more accepted
-pub give-accepted : (g : Given) (s : List ℕ) → Accepts s (g .book) → give g s ≡ record { book = book s (g .book) .lent; accepted = g .accepted ++ (s ∷ []) }
+pub give-accepted : (g : Given) (s : Met) → Accepts s (g .book) → give g s ≡ record { book = bookCall s (g .book) .lent; accepted = g .accepted ++ (s ∷ []) }
 unfolding give
-give-accepted g s a = rw (eq-eqb (book s (g .book) .said .answer) 0 (a .answer))
+give-accepted g s a = rw (eq-eqb (bookCall s (g .book) .said .answer) 0 (a .answer))
 
 module _ (rooms : Rooms) (earlier : List Fit) where
   -- the told book books it too
-  one-accepted : (g : Given) (s : List ℕ) → Booked rooms earlier g → Accepts s (g .book)
-      → Booked rooms earlier (record { book = book s (g .book) .lent; accepted = g .accepted ++ (s ∷ []) })
+  one-accepted : (g : Given) (s : Met) → Booked rooms earlier g → Accepts s (g .book)
+      → Booked rooms earlier (record { book = bookCall s (g .book) .lent; accepted = g .accepted ++ (s ∷ []) })
   one-accepted g s h a =
       let f = follows s (g .book) (h .kept) a in
       let rs : List Fit = map fitOf (g .accepted) in
@@ -49,31 +50,31 @@ module _ (rooms : Rooms) (earlier : List Fit) where
         kept = f .kept;
         lent = f .rooms ∙ h .lent;
         tells =
-            gives-more rooms (earlier ++ rs) (earlier ++ map fitOf (g .accepted ++ (s ∷ []))) (told (g .book)) (told (book s (g .book) .lent)) (fitOf s) (h .tells) allowed
+            gives-more rooms (earlier ++ rs) (earlier ++ map fitOf (g .accepted ++ (s ∷ []))) (told (g .book)) (told (bookCall s (g .book) .lent)) (fitOf s) (h .tells) allowed
             (rw (map-append fitOf (g .accepted) (s ∷ [])) (append-assoc earlier rs (fitOf s ∷ []))) (sym (f .tells));
       }
 
   -- one record given keeps it so
-  one-given : (g : Given) (s : List ℕ) → Booked rooms earlier g → Booked rooms earlier (give g s)
+  one-given : (g : Given) (s : Met) → Booked rooms earlier g → Booked rooms earlier (give g s)
   one-given g s h = go (refused-or-accepted s (g .book))
     where
-      go : Refuses (book s (g .book)) (g .book) ⊎ Accepts s (g .book) → Booked rooms earlier (give g s)
+      go : Refuses (bookCall s (g .book)) (g .book) ⊎ Accepts s (g .book) → Booked rooms earlier (give g s)
       go (inl r) = subst (Booked rooms earlier) (sym (give-refused g s r)) h
       go (inr a) = subst (Booked rooms earlier) (sym (give-accepted g s a)) (one-accepted g s h a)
 
   -- so do any records
-  pub all-given : (rs : List (List ℕ)) (g : Given) → Booked rooms earlier g → Booked rooms earlier (giveAll g rs)
+  pub all-given : (rs : List Met) (g : Given) → Booked rooms earlier g → Booked rooms earlier (giveAll g rs)
   unfolding giveAll
   all-given [] g h = h
   all-given (r ∷ rs) g h = all-given rs (give g r) (one-given g r h)
 
 -- into an unsound book nothing is booked
-pub unsound-given : (rs : List (List ℕ)) (g : Given) → sound (g .book) ≡ false → giveAll g rs ≡ g
+pub unsound-given : (rs : List Met) (g : Given) → sound (g .book) ≡ false → giveAll g rs ≡ g
 unfolding giveAll
 unsound-given [] g e = refl
 unsound-given (r ∷ rs) g e = ap (λ (h : Given). giveAll h rs) (go (refused-or-accepted r (g .book))) ∙ unsound-given rs g e
   where
-    go : Refuses (book r (g .book)) (g .book) ⊎ Accepts r (g .book) → give g r ≡ g
+    go : Refuses (bookCall r (g .book)) (g .book) ⊎ Accepts r (g .book) → give g r ≡ g
     go (inl h) = give-refused g r h
     go (inr a) = absurd (false≢true (sym e ∙ a .is-sound))
 

@@ -8,13 +8,15 @@ use lib.Dec.{eqb, ltb}
 use lib.ListN.{length, getD, take, length-append}
 use lib.Seq.{take-at}
 use borrow.Author.Tests.{eqb-true, eqb-false, eq-eqb, ltb-true}
-use Rattle.book.specs.Booking.{fieldsIn}
+use Rattle.ledger.specs.Book.{schoolOf}
+use Rattle.book.specs.Booking.{keyFields, lineKey, schoolIn, fieldsIn}
 use Rattle.cells.specs.Bytes.{same, all, joined}
 use Rattle.cells.proofs.Bools.{split, and-left, and-right}
 use Rattle.cells.proofs.Lists.{same-lengths}
 use Rattle.record.specs.Layout.{noField, layout, fixedWidth}
 use Rattle.record.specs.Values.{fieldBytes}
 use Rattle.record.specs.declared.layout.Kind.{Kind}
+use Rattle.record.specs.declared.layout.Kind.the-variants.{Order}
 use Rattle.record.proofs.Kept.{field-length}
 use Rattle.book.specs.Asked.{areWide}
 use Rattle.balance.specs.Demand3.{sameFields}
@@ -76,3 +78,8 @@ module _ (k : Kind) (s : List ℕ) where
       let r : Bool = all (λ i. ltb i (length (layout k))) is in
       let l = field-length k s h i (ltb-true i (length (layout k)) (and-left q r e)) in
       rw (eq-eqb (length (fieldBytes k i s)) (getD (layout k) i noField .size) l) (fields-wide h is (and-right q r e))
+
+-- an order's school heads its key
+pub school-heads : (s : List ℕ) → fixedWidth Order ≤ length s → schoolIn Order s ≡ schoolOf (lineKey Order s)
+unfolding schoolIn keyFields lineKey schoolOf layout all
+school-heads s h = front-two 10 2 (10 ∷ 2 ∷ 10 ∷ 13 ∷ 2 ∷ []) (fieldsIn Order (keyFields Order) s) (fields-wide Order s h (keyFields Order) refl) .1

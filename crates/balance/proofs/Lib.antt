@@ -1,6 +1,7 @@
 pub mod Accepted
 pub mod Accounts
 pub mod Bookable
+pub mod Ceilings
 pub mod Computed
 pub mod Demand3
 pub mod Entered
@@ -13,5 +14,7 @@ pub mod Keys
 pub mod Lines
 pub mod Listings
 pub mod Numbers
+pub mod Opens
 pub mod Promises
 pub mod Soundness
+pub mod Stands

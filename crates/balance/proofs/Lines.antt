@@ -24,6 +24,7 @@ use Rattle.ledger.proofs.Gives.{Gives}
 use Rattle.ledger.proofs.Lines.{every-line}
 use Rattle.book.specs.Booking.{copiesIn, markIn, nothingToBook}
 use Rattle.book.specs.Asked.{keyWidths, areWide, lineAsked}
+use Rattle.balance.specs.Met.{Met}
 use Rattle.balance.specs.Told.{reportOf, told, fitAs, fitKind, fitOf}
 use Rattle.balance.specs.Demand3.{isOrder, isDelivery, isReport, copiesOn, keyFieldsIn, sameFields, recordsWith, lastMark, lineFrom, Given}
 use Rattle.balance.specs.Joined.{saysOf}
@@ -34,33 +35,33 @@ use Rattle.balance.proofs.Bookable.{Bookable, booked-as, key-in}
 use Rattle.balance.proofs.Figures.{done-told, asked-tells}
 
 -- the copies on some records that are booked as deliveries
-pub slips-total : (ss : List (List ℕ)) → Each Bookable ss → total onSlip (map fitOf ss) ≡ total copiesOn (keep isDelivery ss)
+pub slips-total : (ss : List Met) → Each Bookable ss → total onSlip (map fitOf ss) ≡ total copiesOn (keep isDelivery ss)
 slips-total ss h =
     total-map onSlip fitOf ss
     ∙ total-each Bookable (λ s. onSlip (fitOf s)) (λ s. pick (isDelivery s) (copiesOn s) 0) (λ s b. booked-as s b .on-slip) ss h
     ∙ sym (total-keep copiesOn isDelivery ss)
 
 -- the last report among some records
-last-report : (ss : List (List ℕ)) → Each Bookable ss → (m : Mark) → lastReport (reportOf m) (map fitOf ss) ≡ reportOf (lastMark m (keep isReport ss))
+last-report : (ss : List Met) → Each Bookable ss → (m : Mark) → lastReport (reportOf m) (map fitOf ss) ≡ reportOf (lastMark m (keep isReport ss))
 unfolding lastReport lastMark keep fitOf fitKind fitAs isReport nothingToBook
 last-report [] h m = refl
 last-report (s ∷ ss) h m = go (h .0 .kind) (h .0 .known) (h .0 .something) (λ n. last-report ss (h .1) n)
   where
-    go : (k : Kind) → kindOf s ≡ Known k → nothingToBook k s ≡ false
+    go : (k : Kind) → kindOf (s .given) ≡ Known k → nothingToBook k (s .given) ≡ false
         → ((n : Mark) → lastReport (reportOf n) (map fitOf ss) ≡ reportOf (lastMark n (keep isReport ss)))
         → lastReport (reportOf m) (fitOf s ∷ map fitOf ss) ≡ reportOf (lastMark m (pick (isReport s) (s ∷ keep isReport ss) (keep isReport ss)))
     go Order e n rest = rw e (rest m)
     go Goods e n rest = rw e (rest m)
     go Closing e n rest = absurd (let z : _≡_ {A = ℕ} 0 1 = cc in omega arith)
-    go Report e n rest = rw e (ap (λ (r : Option Telling). lastReport r (map fitOf ss)) (sym (report-mark s)) ∙ rest (markIn s))
+    go Report e n rest = rw e (ap (λ (r : Option Telling). lastReport r (map fitOf ss)) (sym (report-mark (s .given))) ∙ rest (markIn (s .given)))
 
 -- the line that an order begins, with the records after it
-abbrev begun : Key → List ℕ → List (List ℕ) → Line
+abbrev begun : Key → Met → List Met → Line
 begun key s ss =
     lineOf key (record { ordered = copies (copiesOn s); arrived = copies (total copiesOn (keep isDelivery ss)); mark = lastMark Unmarked (keep isReport ss) })
 
 -- it is the line that the order begins on lists
-order-begins : (key : Key) (s : List ℕ) (ss : List (List ℕ)) → Each Bookable ss
+order-begins : (key : Key) (s : Met) (ss : List Met) → Each Bookable ss
     → record { key = key; asked = record { copies = copiesOn s }; arrived = total onSlip (map fitOf ss); last = lastReport none (map fitOf ss) } ≡ begun key s ss
 unfolding lineOf
 order-begins key s ss h =
@@ -68,15 +69,15 @@ order-begins key s ss h =
     rw (slips-total ss h, last) refl
 
 -- a key's own records make the line that the call by key tells
-own-line : (key : Key) (ss : List (List ℕ)) → Each Bookable ss → saysOf (foremost (lineGiven key (map fitOf ss))) ≡ lineFrom ss
+own-line : (key : Key) (ss : List Met) → Each Bookable ss → saysOf (foremost (lineGiven key (map fitOf ss))) ≡ lineFrom ss
 unfolding lineGiven lineFrom fitOf fitKind fitAs isOrder nothingToBook
 own-line key [] h = unfold saysOf in refl
 own-line key (s ∷ ss) h = go (h .0 .kind) (h .0 .known) (h .0 .something) (own-line key ss (h .1))
   where
-    go : (k : Kind) → kindOf s ≡ Known k → nothingToBook k s ≡ false → saysOf (foremost (lineGiven key (map fitOf ss))) ≡ lineFrom ss
+    go : (k : Kind) → kindOf (s .given) ≡ Known k → nothingToBook k (s .given) ≡ false → saysOf (foremost (lineGiven key (map fitOf ss))) ≡ lineFrom ss
         → saysOf (foremost (lineGiven key (fitOf s ∷ map fitOf ss))) ≡ lineFrom (s ∷ ss)
     go Order e n rest =
-        let c : copiesOn s ≡ copiesIn Order s .0 = unfold copiesOn in rw e refl in
+        let c : copiesOn s ≡ copiesIn Order (s .given) .0 = unfold copiesOn in rw e refl in
         rw (e, ← c) (ap (λ (l : Line). saysOf (some l)) (order-begins key s ss (h .1)) ∙ sym (done-told key _))
     go Goods e n rest = rw e rest
     go Closing e n rest = absurd (let z : _≡_ {A = ℕ} 0 1 = cc in omega arith)
@@ -98,7 +99,7 @@ module _ (rooms : Rooms) (g : Given) (kept : Kept (g .book)) (gives : Gives room
   pub answers : (fields : List (List ℕ)) → lineAsked fields (g .book) ≡ lineFrom (recordsWith fields (g .accepted))
   unfolding recordsWith fitsOf
   answers fields =
-      let with : List ℕ → Bool = λ s. sameFields fields (keyFieldsIn s) in
+      let with : Met → Bool = λ s. sameFields fields (keyFieldsIn s) in
       asked-tells fields (g .book)
       ∙ rw (kept .is-sound)
       (split (areWide keyWidths fields)

@@ -7,12 +7,14 @@ use Rattle.book.specs.Lent.{Lent}
 use Rattle.book.specs.Booking.{Outcome, outcome, book}
 use Rattle.book.specs.Asked.{lineAsked}
 use Rattle.book.specs.declared.answer.Booked.{Booked}
+use Rattle.balance.specs.Met.{Met}
+use Rattle.balance.specs.Calls.{bookCall}
 use Rattle.balance.proofs.Accepted.{Refuses, Accepts, refused-or-accepted}
 
--- `booking::book`: the answer, place and figures, and the lent book at exit, are fixed by the record and the lent book at entry
-pub book-unique : (s : List ℕ) (b : Lent) (said said′ : Booked) (exit exit′ : Lent)
-    → outcome said exit ≡ book s b → outcome said′ exit′ ≡ book s b → (said ≡ said′) × (exit ≡ exit′)
-book-unique s b said said′ exit exit′ p q =
+-- `booking::book`: the answer, place and figures, and the lent book at exit, are fixed by the record, the roster and the lent book at entry
+pub book-unique : (s roster : List ℕ) (b : Lent) (said said′ : Booked) (exit exit′ : Lent)
+    → outcome said exit ≡ book s roster b → outcome said′ exit′ ≡ book s roster b → (said ≡ said′) × (exit ≡ exit′)
+book-unique s roster b said said′ exit exit′ p q =
     let e = p ∙ sym q in
     (ap (λ (o : Outcome). o .said) e, ap (λ (o : Outcome). o .lent) e)
 
@@ -21,9 +23,9 @@ pub line-unique : (fields : List (List ℕ)) (b : Lent) (said said′ : Booked) 
 line-unique fields b said said′ p q = p ∙ sym q
 
 -- a booking that does not answer 0 leaves the lent book as it was
-pub refusal-keeps : (s : List ℕ) (b : Lent) → (book s b .said .answer ≡ 0 → ⊥) → book s b .lent ≡ b
+pub refusal-keeps : (s : Met) (b : Lent) → (bookCall s b .said .answer ≡ 0 → ⊥) → bookCall s b .lent ≡ b
 refusal-keeps s b h = go (refused-or-accepted s b)
   where
-    go : Refuses (book s b) b ⊎ Accepts s b → book s b .lent ≡ b
+    go : Refuses (bookCall s b) b ⊎ Accepts s b → bookCall s b .lent ≡ b
     go (inl r) = r .lent
     go (inr a) = absurd (h (a .answer))

@@ -1,5 +1,5 @@
 -- The figures that the calls answer are those of the book that the bytes tell; and the rule on lists refuses with the same numbers.
-use Prim.Native.Nat.{ℕ}
+use Prim.Native.Nat.{ℕ, _≤_}
 use mathlib.Core.Path.{_≡_}
 use mathlib.Core.Bool.{true, false}
 use mathlib.Core.Option.{Option, none, some}
@@ -17,14 +17,18 @@ use Rattle.ledger.specs.Book.{Line, ordered, filled, letGo, stillOpen, extra}
 use Rattle.ledger.specs.Booking.{numberOf, judge, lineAt}
 use Rattle.ledger.specs.History.{State}
 use Rattle.ledger.specs.Demand3.{Promise3}
-use Rattle.book.specs.Lent.{Lent, sound}
-use Rattle.book.specs.Booking.{nothingToBook, noCopies, noReference, refusedAs}
+use Rattle.book.specs.Lent.{Lent, sound, openCopies}
+use Rattle.roster.specs.Roster.{rosterSound, standing}
+use Rattle.roster.specs.declared.Standing.the-variants.{On}
+use Rattle.book.specs.Booking.{nothingToBook, noCopies, noReference, schoolIn, refusedAs}
 use Rattle.book.specs.Asked.{keyWidths, areWide}
 use Rattle.book.specs.declared.answer.Refused.the-variants.{Unsound, NoLine}
 use Rattle.book.specs.declared.answer.Booked.{Booked}
 use Rattle.balance.specs.Told.{told, roomsOf, fitOf}
+use Rattle.balance.specs.Met.{Met}
 use Rattle.balance.specs.Calls.{bookCall, askCall}
-use Rattle.balance.specs.Demand3.{keyFieldsIn, Given, fresh, giveAll}
+use Rattle.balance.specs.Accepted.{OnRoster}
+use Rattle.balance.specs.Demand3.{isOrder, keyFieldsIn, schoolOf, Given, fresh, giveAll}
 
 -- the figures of a line of the told book, in the order in which the calls give them
 unfoldable pub figuresTold : Line → Figures
@@ -44,14 +48,21 @@ AskedTells = (fields : List (List ℕ)) (b : Lent)
 
 -- where booking answers 0, the call by key with the record's own key says the same of the book afterwards; the used counts are two numbers, as their type has it
 abbrev pub BookedTells : Type 0
-BookedTells = (s : List ℕ) (b : Lent) → length (b .used) ≡ 2 → bookCall s b .said .answer ≡ 0
+BookedTells = (s : Met) (b : Lent) → length (b .used) ≡ 2 → bookCall s b .said .answer ≡ 0
     → askCall (keyFieldsIn s) (bookCall s b .lent) ≡ bookCall s b .said
 
--- of a record that is read and has something to book, booking and the rule on lists give one number
+-- of a record that is read and has something to book, for a school on the roster, booking and the rule on lists give one number
 abbrev pub NumbersAgree : Type 0
-NumbersAgree = (s : List ℕ) (b : Lent) (n : ℕ) (k : Kind) → sound b ≡ true → judged s ≡ ReadFits n → kindOf s ≡ Known k
-    → nothingToBook k s ≡ false → noCopies k s ≡ false → noReference k s ≡ false
+NumbersAgree = (s : Met) (b : Lent) (n : ℕ) (k : Kind) (ceiling : ℕ) → rosterSound (s .roster) ≡ true → sound b ≡ true
+    → judged (s .given) ≡ ReadFits n → kindOf (s .given) ≡ Known k
+    → nothingToBook k (s .given) ≡ false → noCopies k (s .given) ≡ false → noReference k (s .given) ≡ false
+    → standing (s .roster) (schoolIn k (s .given)) ≡ On ceiling
     → bookCall s b .said .answer ≡ numberOf (judge (roomsOf b) (told b) (fitOf s))
+
+-- in any lent book an accepted order leaves its school's open copies at most at its ceiling on the roster that the order met
+abbrev pub CeilingHeld : Type 0
+CeilingHeld = (s : Met) (b : Lent) (ceiling : ℕ) → length (b .used) ≡ 2 → isOrder s ≡ true → bookCall s b .said .answer ≡ 0
+    → OnRoster (s .roster) (joined (schoolOf s)) ceiling → openCopies (bookCall s b .lent) (joined (schoolOf s)) ≤ ceiling
 
 -- what the bytes tell: the book, and the accepted records as they were booked
 abbrev pub stateTold : Given → State
@@ -59,5 +70,5 @@ stateTold g = record { book = told (g .book); accepted = map fitOf (g .accepted)
 
 -- demand 3 of the told book, from which its sentences in the calls' words follow
 abbrev pub ToldDemand3 : Type 0
-ToldDemand3 = (lines slips : List ℕ) (records : List (List ℕ))
+ToldDemand3 = (lines slips : List ℕ) (records : List Met)
     → Promise3 (roomsOf (fresh lines slips .book)) (stateTold (giveAll (fresh lines slips) records))

@@ -1,3 +1,4 @@
+pub mod Met
 pub mod Told
 pub mod Calls
 pub mod Accepted

@@ -13,7 +13,11 @@ use Rattle.entry.specs.declared.line.Mark.the-variants.{Unmarked, Held, Dropped
 use Rattle.ledger.specs.Book.{Hold, J, N, Report, Line, Slip, Book, Rooms}
 use Rattle.ledger.specs.Booking.{Fit, order as ordering, goods as arriving, report as telling}
 use Rattle.book.specs.Lent.{Lent, usedLines, usedSlips, lineRoom, slipRoom}
-use Rattle.book.specs.Booking.{lineKey, slipKey, copiesIn, markIn}
+use Rattle.roster.specs.Roster.{standing}
+use Rattle.roster.specs.declared.Standing.{Standing}
+use Rattle.roster.specs.declared.Standing.the-variants.{On, Off}
+use Rattle.book.specs.Booking.{lineKey, slipKey, schoolIn, copiesIn, markIn}
+use Rattle.balance.specs.Met.{Met}
 
 -- what stands at the n places from i on
 unfoldable pub listed : {A : Type 0} → (ℕ → A) → ℕ → ℕ → List A
@@ -48,16 +52,21 @@ holdOf Unmarked = J
 holdOf Held = J
 holdOf Dropped = N
 
--- the record that bytes of a kind are fit to book as; a closing record never is
-unfoldable pub fitAs : Kind → List ℕ → Fit
-fitAs order s = ordering (lineKey order s) (record { copies = copiesIn order s .0 })
-fitAs goods s = arriving (lineKey goods s) (record { slip = slipKey s; copies = copiesIn goods s .0 })
-fitAs closing s = telling [] (record { hold = J })
-fitAs report s = telling (lineKey report s) (record { hold = holdOf (markIn s) })
+-- the ceiling of a school on a roster; one that is not on it books nothing, so its 0 is never asked for
+unfoldable pub ceilingIn : Standing → ℕ
+ceilingIn (On ceiling) = ceiling
+ceilingIn Off = 0
 
-unfoldable pub fitKind : Kinded → List ℕ → Fit
-fitKind Unknown s = fitAs closing s
-fitKind (Known k) s = fitAs k s
+-- the record that bytes of a kind are fit to book as, an order with the ceiling that its school has on the roster; a closing record never is
+unfoldable pub fitAs : Kind → List ℕ → List ℕ → Fit
+fitAs order s roster = ordering (lineKey order s) (record { copies = copiesIn order s .0 }) (ceilingIn (standing roster (schoolIn order s)))
+fitAs goods s roster = arriving (lineKey goods s) (record { slip = slipKey s; copies = copiesIn goods s .0 })
+fitAs closing s roster = telling [] (record { hold = J })
+fitAs report s roster = telling (lineKey report s) (record { hold = holdOf (markIn s) })
 
-unfoldable pub fitOf : List ℕ → Fit
-fitOf s = fitKind (kindOf s) s
+unfoldable pub fitKind : Kinded → List ℕ → List ℕ → Fit
+fitKind Unknown s roster = fitAs closing s roster
+fitKind (Known k) s roster = fitAs k s roster
+
+unfoldable pub fitOf : Met → Fit
+fitOf s = fitKind (kindOf (s .given)) (s .given) (s .roster)

@@ -1,3 +1,4 @@
 pub mod Sounds
 pub mod Finds
+pub mod Opens
 pub mod Fields

@@ -23,6 +23,7 @@ pub record Sound (b : Lent) : Type 0 where
   pub slips-in : slipWidth * usedSlips b ≤ length (b .slips)
   pub slips-room : slipWidth * slipRoom b ≤ length (b .slips)
   pub slips-most : slipRoom b ≤ 1024
+  pub all-sound : allFrom (lineSound (b .lines)) (usedLines b) 0 ≡ true
   pub line-sound : (i : ℕ) → i < usedLines b → lineSound (b .lines) i ≡ true
   pub slip-names : (j : ℕ) → j < usedSlips b → slipLineAt (b .slips) j < usedLines b
 
@@ -57,6 +58,7 @@ sound-so b h =
       slips-in = omega arith;
       slips-room = omega arith;
       slips-most = n;
+      all-sound = and-left lines slips e;
       line-sound = λ i a. all-at (lineSound (b .lines)) (usedLines b) 0 i (and-left lines slips e) (omega arith) (omega arith);
       slip-names = λ j a. ltb-true _ _ (all-at (slipSound (usedLines b) (b .slips)) (usedSlips b) 0 j (and-right lines slips e) (omega arith) (omega arith));
     }

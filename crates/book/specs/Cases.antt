@@ -21,7 +21,7 @@ roomy lines slips = record { lines = replicate (lines * lineWidth) 7; slips = re
 
 -- a roster of three schools, X's own among them, with room for all that the cases order
 abbrev pub schools : List ℕ
-schools = entry "43211     VD" 10 ++ (entry "43210     VD" 10 ++ entry "43212     VD" 10)
+schools = entry "43211     VD" 500 ++ (entry "43210     VD" 500 ++ entry "43212     VD" 500)
 
 -- what the desk prints of a record: answer, ordered, filled, open, let go, extra
 abbrev pub printed : Booked → List ℕ

@@ -7,6 +7,7 @@ use native.Mathlib.Omega.{arith}
 use borrow.Author.Tests.{ltb-true, leb-true}
 use lib.Dec.{ltb, leb, eqb}
 use Rattle.cells.specs.Bytes.{pick}
+use Rattle.cells.proofs.Bools.{and-right}
 use Rattle.roster.specs.Roster.{rosterSound, standing}
 use Rattle.roster.specs.declared.Standing.{Standing}
 use Rattle.roster.specs.declared.Standing.the-variants.{On, Off}
@@ -26,6 +27,10 @@ use Rattle.book.specs.declared.answer.Refused.{Refused}
 use Rattle.book.specs.declared.answer.Refused.the-variants.{Unsound, Unread, NothingToBook, NoCopies, NoReference, SlipBooked, SlipDiffers}
 use Rattle.book.specs.declared.answer.Verdict.{Verdict}
 use Rattle.book.specs.declared.answer.Verdict.the-variants.{Refuse, Fits}
+
+-- a book that passes the test with its roster is sound
+pub book-sound : (roster : List ℕ) (b : Lent) → rosterSound roster && sound b ≡ true → sound b ≡ true
+book-sound roster b h = and-right (rosterSound roster) (sound b) h
 
 -- 20, 1 to 10, then by the kind
 module _ (s roster : List ℕ) (b : Lent) where

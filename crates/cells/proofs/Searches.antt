@@ -49,19 +49,19 @@ module _ (p : ℕ → Bool) (n i : ℕ) where
       let e : n - i ≡ 0 = omega arith in
       rw e refl
 
--- and for a sum
+-- and for a sum so far: one more is added, or none is left
 module _ (f : ℕ → ℕ) (n i : ℕ) where
-  pub sum-next : i < n → sumFrom f (n - i) i ≡ f i + sumFrom f (n - (i + 1)) (i + 1)
+  pub sum-next : (sum : ℕ) → i < n → sum + sumFrom f (n - i) i ≡ (sum + f i) + sumFrom f (n - (i + 1)) (i + 1)
   unfolding sumFrom
-  sum-next h =
+  sum-next sum h =
       let e : n - i ≡ suc (n - suc i) = omega arith in
-      rw (add-one, e) refl
+      rw (add-one, e) (omega arith)
 
-  pub sum-end : n ≤ i → sumFrom f (n - i) i ≡ 0
+  pub sum-end : (sum : ℕ) → n ≤ i → sum + sumFrom f (n - i) i ≡ sum
   unfolding sumFrom
-  sum-end h =
+  sum-end sum h =
       let e : n - i ≡ 0 = omega arith in
-      rw e refl
+      rw e (omega arith)
 
 -- the place that a search finds is among those searched, and the test holds there
 pub found-at : (p : ℕ → Bool) (n i j : ℕ) → firstFrom p n i ≡ At j → (i ≤ j) × (j < i + n) × (p j ≡ true)

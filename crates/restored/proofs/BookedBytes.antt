@@ -24,6 +24,7 @@ use Rattle.entry.specs.declared.line.Mark.the-variants.{Unmarked, Held, Dropped
 use Rattle.entry.specs.declared.line.Line.{Line}
 use Rattle.book.specs.Lent.{Lent}
 use Rattle.book.specs.Booking.{keyFields, lineKey, lineAfter, lentAfter}
+use Rattle.balance.specs.Met.{Met}
 use Rattle.balance.specs.Demand3.{fresh}
 use Rattle.restored.specs.Restored.{Bytes}
 use Rattle.restored.specs.Bookings.{bookOf, StaysBytes}
@@ -90,8 +91,8 @@ kind-bytes Report s b i n f e = put-bytes (b .lines) i (lineAfter Report s b i) 
 
 -- any records given keep lines that are bytes so
 pub stays-bytes : StaysBytes
-stays-bytes g records e = all-given (λ (b : Lent). Bytes (b .lines)) (λ k s b i n f q. kind-bytes k s b i n f) records g e
+stays-bytes g records e = all-given (λ (b : Lent). Bytes (b .lines)) (λ k s roster b i n f q. kind-bytes k s b i n f) records g e
 
 -- also from rooms with no used entries
-pub bookings-bytes : (lines slips : List ℕ) (records : List (List ℕ)) → Bytes lines → Bytes (bookOf lines slips records .lines)
+pub bookings-bytes : (lines slips : List ℕ) (records : List Met) → Bytes lines → Bytes (bookOf lines slips records .lines)
 bookings-bytes lines slips records e = stays-bytes (fresh lines slips) records e

@@ -11,7 +11,7 @@ use Rattle.record.specs.declared.layout.Kind.{Kind}
 use Rattle.record.specs.declared.layout.Kind.the-variants.{Order, Goods, Closing, Report}
 use Rattle.reader.proofs.Fitting.{Fitting}
 use Rattle.book.specs.Lent.{Lent, usedLines, usedSlips, sound, findLine, findSlip}
-use Rattle.book.specs.Booking.{lineKey, slipKey, copiesIn, markIn, noCopies, bookJudged, lineAfter, lentAfter}
+use Rattle.book.specs.Booking.{lineKey, slipKey, schoolIn, copiesIn, markIn, noCopies, bookJudged, lineAfter, lentAfter}
 use Rattle.book.proofs.Fields.{order-key, slip-key-width, order-copies, goods-copies}
 use Rattle.balance.specs.Demand3.{fresh, giveAll}
 use Rattle.balance.proofs.Followed.{FitPassed, fit-passed, order-fits, delivery-fits, report-fits}
@@ -28,18 +28,18 @@ use Rattle.restored.proofs.BookedBytes.{bookings-bytes}
 use Rattle.restored.proofs.Restored.{load-of-save}
 
 -- a record that fits, entered, keeps the book so
-module _ (s : List ℕ) (b : Lent) (i n : ℕ) (o : Ordered b) where
+module _ (s roster : List ℕ) (b : Lent) (i n : ℕ) (o : Ordered b) where
   -- an order
-  order-entered : Fitting Order s n → FitPassed Order s b i → Ordered (lentAfter Order s b i)
+  order-entered : Fitting Order s n → FitPassed Order s roster b i → Ordered (lentAfter Order s b i)
   unfolding lentAfter lineAfter noCopies bookJudged
   order-entered fit e =
-      let q = order-fits b i (findLine b (lineKey Order s)) (e .judged-fit) in
+      let q = order-fits b i (schoolIn Order s) (copiesIn Order s) (e .ceiling) (findLine b (lineKey Order s)) (e .judged-fit) in
       let ne = eqb-false (copiesIn Order s .0) 0 (e .copies) in
-      let d = q .1 .1 in
-      rw d (order-ordered b (lineKey Order s) (copiesIn Order s) o (order-key s n fit) (omega arith) (order-copies s n fit) (q .0) (q .1 .0) (order-key-kept s n fit (e .referenced)))
+      let d = q .1 .1 .1 in
+      rw d (order-ordered b (lineKey Order s) (copiesIn Order s) o (order-key s n fit) (omega arith) (order-copies s n fit) (q .0) (q .1 .1 .0) (order-key-kept s n fit (e .referenced)))
 
   -- a delivery
-  goods-entered : Fitting Goods s n → FitPassed Goods s b i → Ordered (lentAfter Goods s b i)
+  goods-entered : Fitting Goods s n → FitPassed Goods s roster b i → Ordered (lentAfter Goods s b i)
   unfolding lentAfter lineAfter noCopies bookJudged usedSlips
   goods-entered fit e =
       let q = delivery-fits b i (lineKey Goods s) (copiesIn Goods s) (findSlip b (slipKey s)) (e .judged-fit) in
@@ -47,12 +47,12 @@ module _ (s : List ℕ) (b : Lent) (i n : ℕ) (o : Ordered b) where
       goods-ordered b (lineKey Goods s) (slipKey s) (copiesIn Goods s) i o (slip-key-width s n fit) (omega arith) (goods-copies s n fit) (q .0) (q .1 .0) (q .1 .1 .0) (q .1 .1 .1) (slip-key-kept s n fit (e .something)) (goods-parties s n fit)
 
   -- a report
-  report-entered : FitPassed Report s b i → Ordered (lentAfter Report s b i)
+  report-entered : FitPassed Report s roster b i → Ordered (lentAfter Report s b i)
   unfolding lentAfter lineAfter bookJudged
   report-entered e = report-ordered b (lineKey Report s) (markIn s) i o (report-fits b i (findLine b (lineKey Report s)) (e .judged-fit))
 
   -- a record of any kind; a closing record enters nothing
-  kind-entered : (k : Kind) → Fitting k s n → FitPassed k s b i → Ordered (lentAfter k s b i)
+  kind-entered : (k : Kind) → Fitting k s n → FitPassed k s roster b i → Ordered (lentAfter k s b i)
   unfolding lentAfter
   kind-entered Order fit e = order-entered fit e
   kind-entered Goods fit e = goods-entered fit e
@@ -63,7 +63,7 @@ module _ (s : List ℕ) (b : Lent) (i n : ℕ) (o : Ordered b) where
 pub stays-orderly : StaysOrderly
 stays-orderly g records o two =
     let b : Lent = giveAll g records .book in
-    let kept : Ordered b = all-given Ordered (λ k s b i n f q o. kind-entered s b i n o k f (fit-passed k s b i q)) records g (ordered (g .book) o two) in
+    let kept : Ordered b = all-given Ordered (λ k s roster b i n f q o. kind-entered s roster b i n o k f (fit-passed k s roster b i q)) records g (ordered (g .book) o two) in
     (orderly b kept, kept .kept .counts)
 
 -- a sound book with no used entries is orderly

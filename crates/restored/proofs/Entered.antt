@@ -10,6 +10,7 @@ use borrow.Author.Tests.{eqb-true, eqb-false, eq-eqb, ne-eqb, le-leb}
 use lib.Dec.{eqb}
 use lib.ListN.{length}
 use Rattle.cells.specs.Bytes.{pick, same}
+use Rattle.cells.specs.Search.{sumFrom}
 use Rattle.cells.proofs.Bools.{split}
 use Rattle.rules.specs.declared.amount.Copies.{Copies}
 use Rattle.record.specs.declared.layout.Kind.the-variants.{Goods}
@@ -27,7 +28,7 @@ use Rattle.book.proofs.Sounds.{sound-so}
 use Rattle.balance.proofs.Found.{line-used}
 use Rattle.balance.proofs.Entered.{withLine, at, put-kept, moreLine, next, lines-after, slips-after, add-kept, moreSlip, slip-next, lines-as-before, one-slip-more, slip-kept}
 use Rattle.balance.proofs.Followed.{arrivals-bounded, mark-bounded}
-use Rattle.save.specs.Entries.{referenceAt, slipNumberAt, keyKept, partiesAgree, sumFrom}
+use Rattle.save.specs.Entries.{referenceAt, slipNumberAt, keyKept, partiesAgree}
 use Rattle.restored.proofs.Places.{sum-same, sum-more, sum-none}
 use Rattle.restored.proofs.Ordered.{bookedOn, Ordered}
 

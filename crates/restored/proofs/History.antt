@@ -1,6 +1,7 @@
 -- An orderly book starts from the history that its entries state: demand 3 from there on.
 use mathlib.Core.Path.{_≡_, _∙_, subst, refl}
 use mathlib.Core.List.{List, _++_, map, append-nil}
+use native.Mathlib.Omega.{arith}
 use Rattle.ledger.specs.Book.{Rooms}
 use Rattle.ledger.specs.Booking.{Fit, mostArrived}
 use Rattle.ledger.specs.Demand3.{Promise3}
@@ -29,6 +30,8 @@ entries-told b o =
     let say = sound-so b (o .kept .is-sound) in
     record {
       lines-fit = say .lines-fit;
+      few = omega (arith, say .lines-fit, say .lines-most);
+      small = λ i h. sound-bounded (b .lines) i (say .line-sound i h) .most;
       slips-fit = say .slips-fit;
       line-new = λ e i g h. same-turned (keyAt (b .lines) i) (keyAt (b .lines) e) ∙ o .line-new e i g h;
       slip-new = λ e j g h. same-turned (slipKeyAt (b .slips) j) (slipKeyAt (b .slips) e) ∙ o .slip-new e j g h;

@@ -6,9 +6,8 @@ use native.Mathlib.Nat.{add-zero}
 use native.Mathlib.Omega.{arith}
 use native.Mathlib.Decide.{decLe}
 use Rattle.cells.specs.Bytes.{pick}
-use Rattle.cells.specs.Search.{firstFrom, allFrom}
+use Rattle.cells.specs.Search.{firstFrom, allFrom, sumFrom}
 use Rattle.cells.specs.declared.search.Found.the-variants.{At, Nothing}
-use Rattle.save.specs.Entries.{sumFrom}
 
 -- tests that agree at each place
 pub all-same : (p q : ℕ → Bool) (n i : ℕ) → ((x : ℕ) → i ≤ x → x < i + n → p x ≡ q x) → allFrom p n i ≡ allFrom q n i

@@ -4,24 +4,26 @@ use mathlib.Core.Bool.{Bool, false}
 use mathlib.Core.Logic.{_≢_}
 use mathlib.Core.Option.{Option, none, some}
 use mathlib.Core.List.{List, [], _∷_, _++_, append-nil, append-assoc}
-use Prim.Native.Nat.{ℕ, zero, suc, _+_, _≤_, _<_}
+use Prim.Native.Nat.{ℕ, zero, suc, _+_, _*_, _≤_, _<_}
 use native.Mathlib.Nat.{zero-add}
 use native.Mathlib.Omega.{arith}
 use borrow.Author.Tests.{eqb-true, eqb-false, eq-eqb, ne-eqb, ltb-true, ltb-false, lt-ltb, le-ltb, lt-leb}
 use lib.Dec.{eqb, ltb}
 use Rattle.cells.specs.Bytes.{pick, same}
-use Rattle.cells.specs.Search.{firstFrom}
+use Rattle.cells.specs.Search.{firstFrom, sumFrom}
 use Rattle.cells.proofs.Bools.{split}
 use Rattle.cells.proofs.Lists.{same-refl}
-use Rattle.ledger.specs.Lists.{given, found}
-use Rattle.ledger.specs.Book.{Key, Report, Line, Slip, Book, Rooms}
-use Rattle.ledger.specs.Booking.{Fit, order, goods, report, lineAt, slipAt, done, firstOf, mostArrived, tests, judge, arrive, tell, changeLine, enter}
+use Rattle.roster.specs.Roster.{highestCeiling}
+use Rattle.entry.specs.Stored.{mostCopies}
+use Rattle.book.specs.Lent.{mostLines}
+use Rattle.ledger.specs.Lists.{keep, total, given, found}
+use Rattle.ledger.specs.Book.{Key, schoolOf, ofSchool, Report, Line, Slip, Book, Rooms, ordered, isN, stillOpen}
+use Rattle.ledger.specs.Booking.{Fit, order, goods, report, lineAt, slipAt, done, firstOf, mostArrived, openOf, tests, judge, arrive, tell, changeLine, enter}
 use Rattle.ledger.specs.History.{bookings}
 use Rattle.ledger.proofs.Gives.{Gives, gives-more}
 use Rattle.cells.specs.declared.search.Found.the-variants.{At}
 use Rattle.balance.specs.Told.{listed}
 use Rattle.balance.proofs.Listings.{listed-length, listed-same, listed-more, none-listed, first-listed, change-listed}
-use Rattle.save.specs.Entries.{sumFrom}
 use Rattle.restored.specs.History.{ordersOf, deliveriesOf, reportOn, reportsOf, historyOf}
 use Rattle.restored.proofs.Places.{none-there, first-there, sum-more, sum-less}
 
@@ -30,10 +32,10 @@ listed-next : {A : Type 0} (f : ℕ → A) (k : ℕ) → listed f (suc k) 0 ≡ 
 listed-next {A} f k = listed-more f k 0 ∙ ap (λ (x : ℕ). listed f k 0 ++ (f x ∷ [])) (zero-add k)
 
 -- one more line is one more order
-orders-more : (ls : List Line) (l : Line) → ordersOf (ls ++ (l ∷ [])) ≡ ordersOf ls ++ (order (l .key) (l .asked) ∷ [])
+orders-more : (ls : List Line) (l : Line) → ordersOf (ls ++ (l ∷ [])) ≡ ordersOf ls ++ (order (l .key) (l .asked) highestCeiling ∷ [])
 unfolding ordersOf
 orders-more [] l = refl
-orders-more (x ∷ ls) l = ap (λ (rs : List Fit). order (x .key) (x .asked) ∷ rs) (orders-more ls l)
+orders-more (x ∷ ls) l = ap (λ (rs : List Fit). order (x .key) (x .asked) highestCeiling ∷ rs) (orders-more ls l)
 
 -- one more slip is one more delivery
 deliveries-more : (ts : List Slip) (t : Slip) → deliveriesOf (ts ++ (t ∷ [])) ≡ deliveriesOf ts ++ (goods (t .line) (t .says) ∷ [])
@@ -48,13 +50,29 @@ reports-more [] l = append-nil (reportOn l (l .last))
 reports-more (x ∷ ls) l =
     ap (λ (rs : List Fit). reportOn x (x .last) ++ rs) (reports-more ls l) ∙ sym (append-assoc (reportOn x (x .last)) (reportsOf ls) (reportOn l (l .last)))
 
+-- no more copies are open on a line than were ordered
+open-ordered : (l : Line) → stillOpen l ≤ l .asked .copies
+unfolding stillOpen ordered
+open-ordered l = split (isN (l .last)) (λ e. rw e (omega arith)) (λ e. rw e (omega arith))
+
+-- so not too many for a school on listed lines
+open-most : (school : Key) (f : ℕ → Line) (n i : ℕ) → ((x : ℕ) → i ≤ x → x < i + n → stillOpen (f x) ≤ mostCopies) → openOf school (listed f n i) ≤ mostCopies * n
+unfolding openOf listed keep total
+open-most school f zero i h = omega arith
+open-most school f (suc n) i h =
+    let ih = open-most school f n (suc i) (λ x a c. h x (omega arith) (omega arith)) in
+    let one = h i (omega arith) (omega arith) in
+    split (ofSchool school (f i .key)) (λ e. rw e (omega arith)) (λ e. rw e (omega arith))
+
 -- the copies of the slip at j where it names the line at i, else none
 abbrev pub share : (ℕ → Slip) → (ℕ → ℕ) → ℕ → ℕ → ℕ
 share slip at i j = pick (eqb (at j) i) (slip j .says .copies) 0
 
--- n lines and m slips, the slip at j on the line at `at j`, within the rooms: no key is an earlier one's, and each A is its slips' sum, within the limit
+-- n lines and m slips, the slip at j on the line at `at j`, within the rooms and as many as a book may have, none of more copies than an order may have: no key is an earlier one's, and each A is its slips' sum, within the limit
 pub record Stated (rooms : Rooms) (n m : ℕ) (line : ℕ → Line) (slip : ℕ → Slip) (at : ℕ → ℕ) : Type 0 where
   pub lines-fit : n ≤ rooms .forLines
+  pub few : n ≤ mostLines
+  pub small : (i : ℕ) → i < n → line i .asked .copies ≤ mostCopies
   pub slips-fit : m ≤ rooms .forSlips
   pub line-new : (e i : ℕ) → e < i → i < n → same (line i .key) (line e .key) ≡ false
   pub slip-new : (e j : ℕ) → e < j → j < m → same (slip j .says .slip) (slip e .says .slip) ≡ false
@@ -94,17 +112,20 @@ module _ (rooms : Rooms) (n m : ℕ) (line : ℕ → Line) (slip : ℕ → Slip)
       first-there (λ x. same (line i .key) (line x .key)) n 0 i (omega arith) (omega arith) (same-refl (line i .key)) (λ x a c. s .line-new x i c h)
 
   -- an order is accepted
-  order-allowed : (k : ℕ) → k < n → judge rooms (orderBook k) (order (line k .key) (line k .asked)) ≡ done
+  order-allowed : (k : ℕ) → k < n → judge rooms (orderBook k) (order (line k .key) (line k .asked) highestCeiling) ≡ done
   unfolding judge tests firstOf found lineAt
   order-allowed k h =
       let p : ℕ → Bool = λ x. same (line k .key) (line x .key) in
-      rw (none-listed (λ (l : Line). same (line k .key) (l .key)) p (arrivedBy 0) (λ x. refl) k 0 (none-there p k 0 (λ x a c. s .line-new x k (omega arith) h)), listed-length (arrivedBy 0) k 0, lt-leb (rooms .forLines) k (omega (arith, s .lines-fit)))
+      let school : Key = schoolOf (line k .key) in
+      let most = open-most school (arrivedBy 0) k 0 (λ x a c. omega (arith, open-ordered (arrivedBy 0 x), s .small x (omega arith))) in
+      let below : openOf school (listed (arrivedBy 0) k 0) + line k .asked .copies ≤ highestCeiling = omega (arith, most, s .small k h, s .few) in
+      rw (none-listed (λ (l : Line). same (line k .key) (l .key)) p (arrivedBy 0) (λ x. refl) k 0 (none-there p k 0 (λ x a c. s .line-new x k (omega arith) h)), le-ltb highestCeiling (openOf school (listed (arrivedBy 0) k 0) + line k .asked .copies) below, listed-length (arrivedBy 0) k 0, lt-leb (rooms .forLines) k (omega (arith, s .lines-fit)))
 
   -- so are all, and give the lines with nothing arrived
   orders-give : (k : ℕ) → k ≤ n → Gives rooms (ordersOf (listed line k 0)) (orderBook k)
   orders-give zero h = unfold bookings ordersOf listed in refl
   orders-give (suc k) h =
-      gives-more rooms (ordersOf (listed line k 0)) (ordersOf (listed line (suc k) 0)) (orderBook k) (orderBook (suc k)) (order (line k .key) (line k .asked))
+      gives-more rooms (ordersOf (listed line k 0)) (ordersOf (listed line (suc k) 0)) (orderBook k) (orderBook (suc k)) (order (line k .key) (line k .asked) highestCeiling)
       (orders-give k (omega arith)) (order-allowed k h)
       (sym (ap ordersOf (listed-next line k) ∙ orders-more (listed line k 0) (line k)))
       (unfold enter sumFrom in λ x. record { lines = sym (listed-next (arrivedBy 0) k) x; slips = [] })

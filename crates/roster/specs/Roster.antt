@@ -27,6 +27,10 @@ ceilingWidth = 4
 abbrev pub mostSchools : ℕ
 mostSchools = 64
 
+-- the highest ceiling that an entry can state
+abbrev pub highestCeiling : ℕ
+highestCeiling = 4294967295
+
 -- how many whole entries there are
 unfoldable pub entries : List ℕ → ℕ
 entries roster = length roster / entryWidth

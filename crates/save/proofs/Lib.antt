@@ -3,5 +3,4 @@ pub mod Firsts
 pub mod Forms
 pub mod Joined
 pub mod Keys
-pub mod Sums
 pub mod Within

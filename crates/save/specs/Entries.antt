@@ -7,7 +7,7 @@ use lib.ListN.{length, getD, take}
 use lib.Seq.{slice}
 use Rattle.cells.specs.Bytes.{pick, within, same}
 use Rattle.cells.specs.Little.{leAt}
-use Rattle.cells.specs.Search.{allFrom}
+use Rattle.cells.specs.Search.{allFrom, sumFrom}
 use Rattle.rules.specs.Class.{allOf}
 use Rattle.rules.specs.declared.class.Class.the-variants.{Allowed, Blank}
 use Rattle.record.specs.Layout.{noField, layout, firstBroken}
@@ -72,11 +72,6 @@ slipKept n line body =
 -- no earlier entry has the key of the entry at i; a key is so many bytes at the front of a body
 unfoldable pub isFirst : ℕ → (ℕ → List ℕ) → ℕ → Bool
 isFirst width body i = allFrom (λ e. not (same (take width (body e)) (take width (body i)))) i 0
-
--- the sum of a figure over the n places from i on
-unfoldable pub sumFrom : (ℕ → ℕ) → ℕ → ℕ → ℕ
-sumFrom f zero i = 0
-sumFrom f (suc n) i = f i + sumFrom f n (suc i)
 
 -- the copies of the slip at j where it names the line at i, else none
 unfoldable pub copiesOn : (ℕ → List ℕ) → ℕ → ℕ → ℕ

@@ -43,17 +43,18 @@ pub extern "C" fn wq_write(
     writer::write(fixed, table, fields, contents, out)
 }
 
-// Books a record into the lent book.
+// Books a record, for a school of the roster, into the lent book.
 #[no_mangle]
 pub extern "C" fn wq_book(
     record: &[u8],
+    roster: &[u8],
     lines: &mut [u8],
     slips: &mut [u8],
     used: &mut [usize; 2],
 ) -> Booked
-    ensures { λ r. ⌜ booked r (lent (now (lines .exit)) (now (slips .exit)) (now (used .exit))) ≡ book (now («record» .entry)) (lent (now (lines .entry)) (now (slips .entry)) (now (used .entry))) ⌝ }
+    ensures { λ r. ⌜ booked r (lent (now (lines .exit)) (now (slips .exit)) (now (used .exit))) ≡ book (now («record» .entry)) (now (roster .entry)) (lent (now (lines .entry)) (now (slips .entry)) (now (used .entry))) ⌝ }
 {
-    booking::book(record, lines, slips, used)
+    booking::book(record, roster, lines, slips, used)
 }
 
 // The figures of the line with a key.

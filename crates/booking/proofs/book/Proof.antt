@@ -1,12 +1,12 @@
 -- `booking::book` meets its contract.
 use mathlib.Core.Path.{_∙_, sym, ap}
-use Rattle.cells.proofs.Bools.{is-not, is-so, and-right}
+use Rattle.cells.proofs.Bools.{is-not, is-so}
 use Rattle.reader.proofs.Fitting.{fitting}
 use Rattle.record.specs.declared.layout.Kind.the-variants.{Order, Goods, Closing, Report}
 use Rattle.record.specs.declared.layout.Kinded.the-variants.{Known}
 use Rattle.book.proofs.Fields.{order-copies, goods-copies}
 use Rattle.booking.proofs.Rooms.{fixed-wide}
-use Rattle.booking.proofs.Stages.{book-unsound, book-unread, book-unknown, book-known, closing-so}
+use Rattle.booking.proofs.Stages.{book-sound, book-unsound, book-unread, book-unknown, book-known, closing-so}
 use borrow.Author.Needs.{needs}
 use Rattle.booking.proofs.book.Statement.{statement}
 use Rattle.booking.proofs.book.Tie as tie
@@ -65,7 +65,7 @@ book-order-requires c κs =
     let else = judge .before in
     let g = sym (kind .kind-of .ensures) ∙ known .k .given .1 ∙ ap Known (arm .enum-told3 .given .1) in
     let f = sym (judge .judge-record .ensures) ∙ read .enum-told .given .1 in
-    (and-right _ _ (is-so (else .before .are-sound .ensures) (else .if1 .left)), fixed-wide Order _ _ g f, order-copies _ _ (fitting Order _ _ g f))
+    (book-sound _ _ (is-so (else .before .are-sound .ensures) (else .if1 .left)), fixed-wide Order _ _ g f, order-copies _ _ (fitting Order _ _ g f))
 
 enum-told-4 : tie.Need-enum-told-4
 enum-told-4 c = search needs
@@ -80,7 +80,7 @@ book-goods-requires c κs =
     let else = judge .before in
     let g = sym (kind .kind-of .ensures) ∙ known .k .given .1 ∙ ap Known (arm .enum-told4 .given .1) in
     let f = sym (judge .judge-record .ensures) ∙ read .enum-told .given .1 in
-    (and-right _ _ (is-so (else .before .are-sound .ensures) (else .if1 .left)), fixed-wide Goods _ _ g f, goods-copies _ _ (fitting Goods _ _ g f))
+    (book-sound _ _ (is-so (else .before .are-sound .ensures) (else .if1 .left)), fixed-wide Goods _ _ g f, goods-copies _ _ (fitting Goods _ _ g f))
 
 enum-told-5 : tie.Need-enum-told-5
 enum-told-5 c = search needs
@@ -99,7 +99,7 @@ book-report-requires c κs =
     let read = kind .before in
     let judge = read .before .before in
     let else = judge .before in (
-      and-right _ _ (is-so (else .before .are-sound .ensures) (else .if1 .left)),
+      book-sound _ _ (is-so (else .before .are-sound .ensures) (else .if1 .left)),
       fixed-wide Report _ _ (sym (kind .kind-of .ensures) ∙ known .k .given .1 ∙ ap Known (arm .enum-told6 .given .1)) (sym (judge .judge-record .ensures) ∙ read .enum-told .given .1),
     )
 

@@ -23,7 +23,7 @@ enter-goods-requires : tie.Need-enter-goods-requires
 enter-goods-requires c κs =
     let fits = c .before .before .before .before in
     let judge = fits .before .before in
-    let start = judge .before .before .before .before .before .before .before in
+    let start = judge .before .before .before .before .before .before .before .before in
     let room = goods-room _ _ _ _ _ (start .pre .0) _ (sym (judge .judge-goods .ensures) ∙ fits .i .given .1) in
     (start .pre .1, room .0, room .1, room .2, room .3)
 

@@ -23,7 +23,7 @@ enter-order-requires : tie.Need-enter-order-requires
 enter-order-requires c κs =
     let fits = c .before .before .before in
     let judge = fits .before .before in
-    let start = judge .before .before .before .before .before .before in
+    let start = judge .before .before .before .before .before .before .before in
     let room = order-room _ _ _ _ _ (start .pre .0) _ (sym (judge .judge-order .ensures) ∙ fits .i .given .1) in
     (start .pre .1, room .0, room .1)
 

@@ -23,7 +23,7 @@ enter-report-requires : tie.Need-enter-report-requires
 enter-report-requires c κs =
     let fits = c .before .before in
     let judge = fits .before .before in
-    let start = judge .before .before .before .before .before in
+    let start = judge .before .before .before .before .before .before in
     (start .pre .1, report-room _ _ _ _ _ (start .pre .0) _ (sym (judge .judge-report .ensures) ∙ fits .i .given .1))
 
 same-length : tie.Need-same-length

@@ -41,14 +41,14 @@ loop-again c =
     let l = c .before .before in
     let start = l .before .before .before in
     let one = open-bounded (start .args .lines .now) (start .args .school .now) (l .loop .i) (all-at (lineSound (start .args .lines .now)) (start .args .count) 0 (l .loop .i) (start .pre .2) (omega arith) (omega arith)) in
-    let next = sum-next (openAt (start .args .lines .now) (start .args .school .now)) (start .args .count) (l .loop .i) (omega arith) in
+    let next = sum-next (openAt (start .args .lines .now) (start .args .school .now)) (start .args .count) (l .loop .i) (l .loop .sum) (omega arith) in
     (omega arith, omega (arith, l .loop .inv .1, one, c .open-at .ensures), omega (arith, l .loop .inv .2, next, c .open-at .ensures))
 
 returns : tie.Need-returns Inv-loop μ-loop
 returns c =
     let l = c .before in
     let start = l .before .before .before in
-    let end = sum-end (openAt (start .args .lines .now) (start .args .school .now)) (start .args .count) (l .loop .i) (omega arith) in
+    let end = sum-end (openAt (start .args .lines .now) (start .args .school .now)) (start .args .count) (l .loop .i) (l .loop .sum) (omega arith) in
     omega (arith, l .loop .inv .2, end)
 
 pub open-copies-spec : {M : Type 1} → statement M

@@ -1,52 +1,55 @@
+-- `judging::judge::judge_report` meets its contract: 12, 24, 16.
+use mathlib.Core.Path.{sym, _∙_}
+use Rattle.judging.proofs.Named.{report-school-is}
+use Rattle.judging.proofs.Stages.{report-blank, asked, report-unnamed, report-off, report-on}
 use borrow.Author.Needs.{needs}
 use Rattle.judging.proofs.judge.judge_report.Statement.{statement}
 use Rattle.judging.proofs.judge.judge_report.Tie as tie
-use Rattle.judging.proofs.judge.judge_report.Reads as reads
-use Rattle.judging.proofs.judge.judge_report.Lts as lts
-use Rattle.cells.proofs.part.Reads as part-reads
-use Rattle.judging.proofs.judge.judge_mark.Reads as judge-mark-reads
-use Rattle.roster.proofs.standing_on.Reads as standing-on-reads
-use Rattle.rules.proofs.class.all_of.Reads as all-of-reads
 
--- src/judge.rt:221:29
 part-requires : tie.Need-part-requires
 part-requires c κs = search needs
 
--- src/judge.rt:221:8
 all-of-requires : tie.Need-all-of-requires
 all-of-requires c κs = search needs
 
--- src/judge.rt:222:9
 returns : tie.Need-returns
-returns c = ?
+returns c =
+    let blank = c .before in
+    sym (report-unnamed _ _ _ (sym (report-blank _ (blank .all-of .ensures) (blank .before .part .ensures)) ∙ c .if1 .taken))
 
--- src/judge.rt:224:31
 part-requires-2 : tie.Need-part-requires-2
 part-requires-2 c κs = search needs
 
--- src/judge.rt:224:11
 standing-on-requires : tie.Need-standing-on-requires
 standing-on-requires c κs = search needs
 
--- src/judge.rt:225:42
 enum-told : tie.Need-enum-told
 enum-told c = search needs
 
--- src/judge.rt:226:28
 enum-told-2 : tie.Need-enum-told-2
 enum-told-2 c = search needs
 
--- src/judge.rt:226:28
 judge-mark-requires : tie.Need-judge-mark-requires
 judge-mark-requires c κs = search needs
 
--- src/judge.rt:211:1
 returns-2 : tie.Need-returns-2
-returns-2 c = ?
+returns-2 c =
+    let stand = c .before .before in
+    let named = stand .before .before in
+    sym
+    (report-off _ _ _
+    (sym (report-blank _ (named .before .all-of .ensures) (named .before .before .part .ensures)) ∙ named .if1 .left)
+    (asked _ (stand .standing-on .ensures) (stand .before .part2 .ensures ∙ sym (report-school-is _)) (c .enum-told .given .1)))
 
--- src/judge.rt:211:1
 returns-3 : tie.Need-returns-3
-returns-3 c = ?
+returns-3 c =
+    let stand = c .before .before .before in
+    let named = stand .before .before in
+    rw (c .judge-mark .ensures)
+    (sym
+    (report-on _ _ _
+    (sym (report-blank _ (named .before .all-of .ensures) (named .before .before .part .ensures)) ∙ named .if1 .left)
+    _ (asked _ (stand .standing-on .ensures) (stand .before .part2 .ensures ∙ sym (report-school-is _)) (c .before .enum-told2 .given .1))))
 
 pub judge-report-spec : {M : Type 1} → statement M
 judge-report-spec =

@@ -3,10 +3,11 @@ use mathlib.Core.Path.{_≡_, _∙_, sym}
 use Prim.Native.Nat.{_+_, _*_, _≤_, _-_}
 use native.Mathlib.Omega.{arith}
 use native.Mathlib.Nat.{sub-zero, zero-add}
+use Rattle.cells.specs.Search.{sumFrom}
 use Rattle.rules.specs.Values.{copies}
-use Rattle.save.specs.Entries.{sumFrom, copiesOn, arrivedOn}
+use Rattle.save.specs.Entries.{copiesOn, arrivedOn}
 use Rattle.save.specs.Saved.{slipIn}
-use Rattle.save.proofs.Sums.{sum-next, sum-end}
+use Rattle.cells.proofs.Searches.{sum-next, sum-end}
 use Rattle.save.proofs.judge.arrived_on.Statement.{statement}
 use Rattle.save.proofs.judge.arrived_on.Tie as tie
 
