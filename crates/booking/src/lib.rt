@@ -64,13 +64,7 @@ fn book_goods(
 }
 
 // A report that is read, booked into a sound book.
-fn book_report(
-    s: &[u8],
-    roster: &[u8],
-    lines: &mut [u8],
-    slips: &[u8],
-    used: &[usize; 2],
-) -> Booked
+fn book_report(s: &[u8], roster: &[u8], lines: &mut [u8], slips: &[u8], used: &[usize; 2]) -> Booked
     requires { ⌜ (sound (lent (now lines) (now slips) (now used)) ≡ true) × (fixedWidth Kind.Report ≤ length (now s)) ⌝ }
     ensures { λ r. ⌜ outcome r (lent (now (lines .exit)) (now (slips .entry)) (now (used .entry))) ≡ bookAs Kind.Report (now (s .entry)) (now (roster .entry)) (lent (now (lines .entry)) (now (slips .entry)) (now (used .entry))) ⌝ }
 {

@@ -5,11 +5,13 @@ use mathlib.Core.List.{List, [], _∷_}
 use Prim.Native.Nat.{ℕ, _≤_, _<_}
 use native.Mathlib.Omega.{arith}
 use lib.Dec.{ltb}
-use lib.ListN.{length, take, length-append}
-use lib.Seq.{length-slice}
-use borrow.Author.Tests.{ltb-true, ltb-false, lt-ltb}
+use lib.ListN.{length, take, replicate, length-append}
+use lib.Seq.{sets, length-slice}
+use Rattle.cells.specs.Bytes.{joined}
+use borrow.Author.Tests.{ltb-true, ltb-false, lt-ltb, le-ltb}
 use Rattle.cells.specs.Little.{leBytes}
 use Rattle.cells.proofs.Bools.{split}
+use Rattle.cells.proofs.Filled.{filled-whole, filled-first, filled-next, filled-end}
 use Rattle.roster.specs.Roster.{entryWidth, accountWidth, ceilingWidth, highestCeiling, entries, rosterSound}
 use Rattle.record.specs.Layout.{kindOf}
 use Rattle.record.specs.declared.layout.Kind.the-variants.{Order, Goods, Closing, Report}
@@ -30,7 +32,7 @@ unfolding judged
 long-judged s h = rw (lt-ltb 1024 (length s) h)
 
 -- the account of a record that has its two parties has its length, so the roster that it meets has the right size
-account-wide : (s : List ℕ) (k : Kinded) → partiesEnd ≤ length s → length (accountBy k s) ≡ accountWidth
+pub account-wide : (s : List ℕ) (k : Kinded) → partiesEnd ≤ length s → length (accountBy k s) ≡ accountWidth
 unfolding accountBy
 account-wide s (Known Order) h = length-slice 4 16 s (omega arith)
 account-wide s (Known Goods) h = length-slice 16 28 s (omega arith)
@@ -38,9 +40,28 @@ account-wide s (Known Closing) h = length-slice 16 28 s (omega arith)
 account-wide s (Known Report) h = length-slice 16 28 s (omega arith)
 account-wide s Unknown h = length-slice 16 28 s (omega arith)
 
-pub entry-wide : (s : List ℕ) → partiesEnd ≤ length s → length (ownEntry s) ≡ entryWidth
+entry-wide : (s : List ℕ) → partiesEnd ≤ length s → length (ownEntry s) ≡ entryWidth
 unfolding ownEntry leBytes
 entry-wide s h = length-append (accountBy (kindOf s) s) (leBytes ceilingWidth highestCeiling) ∙ rw (account-wide s (kindOf s) h) refl
+
+-- an array that account and ceiling fill is the entry
+pub entry-filled : (s d e : List ℕ) → partiesEnd ≤ length s → d ≡ sets (replicate entryWidth 0) 0 (accountBy (kindOf s) s)
+    → e ≡ sets d accountWidth (leBytes ceilingWidth highestCeiling) → e ≡ ownEntry s
+unfolding joined ownEntry leBytes
+entry-filled s d e h f g =
+    let account : List ℕ = accountBy (kindOf s) s in
+    let ceiling : List ℕ = leBytes ceilingWidth highestCeiling in
+    filled-whole {n = entryWidth} {ps = account ∷ ceiling ∷ []} {out = e}
+    (filled-first {p = account} {ps = ceiling ∷ []} f (account-wide s (kindOf s) h) (filled-next {p = ceiling} {ps = []} g refl filled-end))
+
+-- the roster of a record that is too short, and of one that is not
+pub own-none : (s : List ℕ) → length s < partiesEnd → ownRoster s ≡ []
+unfolding ownRoster
+own-none s h = rw (lt-ltb (length s) partiesEnd h) refl
+
+pub own-some : (s : List ℕ) → partiesEnd ≤ length s → ownRoster s ≡ ownEntry s
+unfolding ownRoster
+own-some s h = rw (le-ltb (length s) partiesEnd h) refl
 
 own-sound : (s : List ℕ) → rosterSound (ownRoster s) ≡ true
 unfolding rosterSound entries ownRoster

@@ -13,11 +13,11 @@ use crate::keys::report_key;
 use crate::keys::slip_key;
 use book::answer::Refused;
 use book::answer::Verdict;
-use cells::search::Found;
 use book::seek::find_line;
 use book::seek::find_slip;
 use book::seek::open_copies;
 use cells::part;
+use cells::search::Found;
 use entry::stored::LINE_WIDTH;
 use entry::stored::MOST_ARRIVED;
 use entry::stored::SLIP_WIDTH;
@@ -154,7 +154,13 @@ fn judge_arrival(copies: Copies, lines: &[u8], slips: &[u8], used: &[usize; 2], 
 }
 
 // 17 or 18, 16, 21, 19.
-fn judge_delivery(s: &[u8], copies: Copies, lines: &[u8], slips: &[u8], used: &[usize; 2]) -> Verdict
+fn judge_delivery(
+    s: &[u8],
+    copies: Copies,
+    lines: &[u8],
+    slips: &[u8],
+    used: &[usize; 2],
+) -> Verdict
     requires { ⌜ (sound (lent (now lines) (now slips) (now used)) ≡ true) × (fixedWidth Kind.Goods ≤ length (now s)) × (copies .0 ≤ mostCopies) ⌝ }
     ensures { λ r. ⌜ r ≡ deliveryJudged (lent (now (lines .entry)) (now (slips .entry)) (now (used .entry))) (lineKey Kind.Goods (now (s .entry))) copies (findSlip (lent (now (lines .entry)) (now (slips .entry)) (now (used .entry))) (slipKey (now (s .entry)))) ⌝ }
 {
