@@ -3,3 +3,4 @@ pub mod Told
 pub mod Agree
 pub mod Formed
 pub mod Computed
+pub mod Promises
