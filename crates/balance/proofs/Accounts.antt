@@ -22,7 +22,6 @@ use Rattle.ledger.proofs.Gives.{Gives}
 use Rattle.ledger.proofs.Sums.{order-sum, slip-sum}
 use Rattle.ledger.proofs.Slips.{slip-once}
 use Rattle.ledger.proofs.Orders.{figureAt, ordersIn, lines-by-orders}
-use Rattle.book.specs.Lent.{sound}
 use Rattle.book.specs.Booking.{noFigures, refusedAs}
 use Rattle.book.specs.Asked.{areWide, lineAsked}
 use Rattle.book.specs.declared.answer.Booked.{Booked as Said}
@@ -36,7 +35,7 @@ use Rattle.balance.proofs.Accepted.{Refuses, Accepts, refused-or-accept
 use Rattle.balance.proofs.Bookable.{Bookable, bookable, keyed, slipWidths, schoolTest, school-in, booked-as}
 use Rattle.balance.proofs.Given.{give-refused, give-accepted}
 use Rattle.balance.proofs.Figures.{asked-tells}
-use Rattle.balance.proofs.Lines.{slips-total, answers}
+use Rattle.balance.proofs.Lines.{slips-total}
 
 -- every accepted record is fit to book
 one-bookable : (g : Given) (s : Met) → Each Bookable (g .accepted) → Each Bookable (give g s .accepted)

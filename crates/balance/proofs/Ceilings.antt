@@ -1,10 +1,9 @@
 -- After an accepted order its school's open copies are at most its ceiling on the roster that the order met.
 use mathlib.Core.Path.{_≡_, _∙_, ap, sym, refl}
-use mathlib.Core.Bool.{Bool, true, false, false≢true}
+use mathlib.Core.Bool.{true, false, false≢true}
 use mathlib.Core.Logic.{_⊎_, inl, inr}
 use mathlib.Core.List.{List, [], _∷_, _++_}
 use Prim.Native.Nat.{ℕ, _+_, _≤_}
-use native.Mathlib.Omega.{arith}
 use lib.ListN.{take}
 use Rattle.cells.specs.Bytes.{joined}
 use Rattle.cells.proofs.Bools.{split}
@@ -15,19 +14,19 @@ use Rattle.record.specs.declared.layout.Kind.{Kind}
 use Rattle.record.specs.declared.layout.Kind.the-variants.{Order, Goods, Closing, Report}
 use Rattle.record.specs.declared.layout.Kinded.the-variants.{Known}
 use Rattle.entry.specs.declared.line.Figures.{Figures}
-use Rattle.ledger.specs.Lists.{keep, total}
-use Rattle.ledger.specs.Book.{Line, schoolOf as schoolIn, ofSchool as schoolIs, Rooms, stillOpen}
+use Rattle.ledger.specs.Lists.{total}
+use Rattle.ledger.specs.Book.{schoolOf as schoolIn, Rooms, stillOpen}
 use Rattle.ledger.specs.Booking.{done, openOf, judge, enter}
 use Rattle.ledger.specs.History.{keyOf as keyIn, linesOf}
 use Rattle.ledger.proofs.Ceilings.{ceiling-kept as kept-on-lists}
 use Rattle.book.specs.Lent.{Lent, sound, openCopies}
-use Rattle.book.specs.Booking.{keyFields, schoolFields, schoolIn as schoolAt}
+use Rattle.book.specs.Booking.{keyFields, schoolIn as schoolAt}
 use Rattle.book.specs.Asked.{areWide}
 use Rattle.balance.specs.Met.{Met}
 use Rattle.balance.specs.Calls.{bookCall}
 use Rattle.balance.specs.Told.{told, roomsOf, ceilingIn, fitAs, fitKind, fitOf}
 use Rattle.balance.specs.Accepted.{OnRoster}
-use Rattle.balance.specs.Demand3.{isOrder, keyFieldsIn, ofSchool, recordsOf, Given, fresh, give, giveAll, schoolOf, openFor, CeilingKept}
+use Rattle.balance.specs.Demand3.{isOrder, keyFieldsIn, Given, fresh, give, giveAll, schoolOf, openFor, CeilingKept}
 use Rattle.balance.specs.Joined.{figuresTold, CeilingHeld}
 use Rattle.balance.proofs.Soundness.{Kept}
 use Rattle.balance.proofs.Accepted.{Refuses, Accepts, refused-or-accepted}

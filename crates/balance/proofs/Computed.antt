@@ -1,6 +1,6 @@
 -- What demand 3 reads out of records, computed on the samples of RULES 12: kinds, key fields, copies, schools, and the line that a key's own records make.
 use mathlib.Core.Path.{_≡_, refl}
-use mathlib.Core.Bool.{Bool, true, false}
+use mathlib.Core.Bool.{true, false}
 use mathlib.Core.List.{List, [], _∷_}
 use Prim.Native.Nat.{ℕ}
 use Rattle.cells.specs.Bytes.{bytes, same, all}

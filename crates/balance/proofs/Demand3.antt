@@ -6,17 +6,16 @@ use mathlib.Core.List.{List, [], _∷_, _++_, map, map-append, append-assoc, app
 use Prim.Native.Nat.{ℕ, _+_}
 use native.Mathlib.Omega.{arith}
 use lib.ListN.{length}
-use Rattle.cells.specs.Bytes.{pick, same}
+use Rattle.cells.specs.Bytes.{pick}
 use Rattle.cells.specs.Search.{allFrom}
 use Rattle.cells.proofs.Bools.{split}
-use Rattle.ledger.specs.Lists.{keep, total, given}
+use Rattle.ledger.specs.Lists.{keep, total}
 use Rattle.ledger.specs.Book.{Rooms}
 use Rattle.ledger.specs.Booking.{done, judge}
 use Rattle.ledger.specs.History.{State, settle, booking, bookings}
 use Rattle.ledger.proofs.Lists.{Each}
 use Rattle.ledger.proofs.Members.{keep-within}
-use Rattle.ledger.proofs.Histories.{alone}
-use Rattle.ledger.proofs.Gives.{Gives, first-accepted}
+use Rattle.ledger.proofs.Gives.{first-accepted}
 use Rattle.ledger.proofs.Slips.{slip-once}
 use Rattle.book.specs.Lent.{usedLines, usedSlips, lineRoom, slipRoom, sound, roomsSound}
 use Rattle.book.specs.Booking.{refusedAs}
@@ -37,7 +36,7 @@ use Rattle.balance.proofs.Followed.{follows}
 use Rattle.balance.proofs.Lines.{answers}
 use Rattle.balance.proofs.Numbers.{numbers-agree}
 use Rattle.balance.proofs.Ceilings.{ceiling-kept}
-use Rattle.balance.proofs.Stands.{Stands, stands}
+use Rattle.balance.proofs.Stands.{stands}
 use Rattle.balance.proofs.Accounts.{equal-fields, own-bookable, orders-summed, deliveries-summed, once, alone-booked}
 
 -- the given state after a record that was accepted

@@ -7,7 +7,7 @@ use native.Mathlib.Omega.{arith}
 use lib.ListN.{take, drop}
 use lib.Seq.{slice, take-take}
 use borrow.Author.Tests.{lt-leb, le-ltb}
-use Rattle.cells.specs.Bytes.{pick, same}
+use Rattle.cells.specs.Bytes.{pick}
 use Rattle.cells.specs.Search.{sumFrom}
 use Rattle.cells.specs.declared.search.Found.the-variants.{Nothing}
 use Rattle.cells.proofs.Bools.{split}

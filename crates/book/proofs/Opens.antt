@@ -8,7 +8,7 @@ use lib.ListN.{length, getD}
 use Rattle.cells.specs.Search.{allFrom, sumFrom}
 use Rattle.entry.specs.Stored.{lineWidth, mostCopies, openAt, lineSound}
 use Rattle.entry.proofs.Sound.{open-bounded}
-use Rattle.book.specs.Lent.{lent, usedLines, lineRoom, mostLines, sound, openCopies}
+use Rattle.book.specs.Lent.{lent, usedLines, mostLines, sound, openCopies}
 use Rattle.book.proofs.Sounds.{sound-so}
 
 -- a sum of figures that are each at most those of one order

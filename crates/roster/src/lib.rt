@@ -2,7 +2,7 @@
 ghost use mathlib.Core.Path.{_≡_};
 ghost use Prim.Native.Nat.{_*_, _+_, _≤_};
 ghost use lib.ListN.{length};
-ghost use Rattle.roster.specs.Roster.{entryWidth, rosterSound, accountIs, findAccount, ceilingAt, standing};
+ghost use Rattle.roster.specs.Roster.{entryWidth, rosterSound, accountIs, findAccount, standing};
 
 pub mod schools;
 

@@ -1,5 +1,5 @@
 -- `desk::book_own` meets its contract.
-use mathlib.Core.Path.{_∙_, sym}
+use mathlib.Core.Path.{_∙_}
 use native.Mathlib.Omega.{arith}
 use Rattle.cells.proofs.Parts.{nothing}
 use Rattle.desk.specs.Printed.{bookOwn}
