@@ -1,5 +1,6 @@
 -- The roster that each record meets, and what is printed of it (RULES 11).
 use Prim.Native.Nat.{ℕ}
+use mathlib.Core.Path.{_≡_}
 use mathlib.Core.Bool.{_||_}
 use mathlib.Core.List.{List, [], _∷_, _++_}
 use lib.Dec.{eqb, ltb}
@@ -51,6 +52,10 @@ ownRoster s = pick (ltb (length s) partiesEnd) [] (ownEntry s)
 
 unfoldable pub bookOwn : List ℕ → Lent → Outcome
 bookOwn s b = book s (ownRoster s) b
+
+-- the roster that each record meets is never in its way: no record is answered 24 or 25
+abbrev pub NeverInTheWay : Type 0
+NeverInTheWay = (s : List ℕ) (b : Lent) → (bookOwn s b .said .answer ≡ 24 → ⊥) × (bookOwn s b .said .answer ≡ 25 → ⊥)
 
 -- records booked one after another, each into the book that the one before it left
 unfoldable pub bookEach : List (List ℕ) → Lent → List Outcome

@@ -3,7 +3,7 @@ use mathlib.Core.Path.{_∙_}
 use native.Mathlib.Omega.{arith}
 use Rattle.cells.proofs.Parts.{nothing}
 use Rattle.desk.specs.Printed.{bookOwn}
-use Rattle.desk.proofs.Answers.{own-none, own-some}
+use Rattle.desk.proofs.Own.{own-none, own-some}
 use borrow.Author.Needs.{needs}
 use Rattle.desk.proofs.book_own.Statement.{statement}
 use Rattle.desk.proofs.book_own.Tie as tie

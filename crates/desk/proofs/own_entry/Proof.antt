@@ -1,10 +1,30 @@
 -- `desk::own_entry` meets its contract: account and ceiling fill the entry.
+use mathlib.Core.Path.{_≡_, refl}
+use mathlib.Core.List.{List, [], _∷_}
+use Prim.Native.Nat.{ℕ, _≤_}
 use native.Mathlib.Omega.{arith}
+use lib.ListN.{length, replicate}
+use lib.Seq.{sets}
+use Rattle.cells.specs.Bytes.{joined}
+use Rattle.cells.specs.Little.{leBytes}
+use Rattle.cells.proofs.Filled.{filled-whole, filled-first, filled-next, filled-end}
+use Rattle.roster.specs.Roster.{entryWidth, accountWidth, ceilingWidth, highestCeiling}
 use Rattle.record.specs.Layout.{kindOf}
-use Rattle.desk.proofs.Answers.{account-wide, entry-filled}
+use Rattle.desk.specs.Printed.{partiesEnd, accountBy, ownEntry}
+use Rattle.desk.proofs.Own.{account-wide}
 use borrow.Author.Needs.{needs}
 use Rattle.desk.proofs.own_entry.Statement.{statement}
 use Rattle.desk.proofs.own_entry.Tie as tie
+
+-- an array that account and ceiling fill is the entry
+entry-filled : (s d e : List ℕ) → partiesEnd ≤ length s → d ≡ sets (replicate entryWidth 0) 0 (accountBy (kindOf s) s)
+    → e ≡ sets d accountWidth (leBytes ceilingWidth highestCeiling) → e ≡ ownEntry s
+unfolding joined ownEntry leBytes
+entry-filled s d e h f g =
+    let account : List ℕ = accountBy (kindOf s) s in
+    let ceiling : List ℕ = leBytes ceilingWidth highestCeiling in
+    filled-whole {n = entryWidth} {ps = account ∷ ceiling ∷ []} {out = e}
+    (filled-first {p = account} {ps = ceiling ∷ []} f (account-wide s (kindOf s) h) (filled-next {p = ceiling} {ps = []} g refl filled-end))
 
 slice-aggregate-paste-at : tie.Need-slice-aggregate-paste-at
 slice-aggregate-paste-at c = search needs
