@@ -9,9 +9,10 @@ use Rattle.record.specs.Read.{check}
 use Rattle.record.specs.Samples.{X, Y, Z, put, Call, reads, books}
 use Rattle.record.specs.Edges.{C, fullTable}
 use Rattle.record.specs.declared.answer.Checked.{Checked}
+use Rattle.record.specs.declared.layout.Kind.the-variants.{Order, Goods}
 use Rattle.entry.specs.Stored.{lineWidth, slipWidth, keyWidth, markAt, arrivedAt, slipKeyWidth}
 use Rattle.book.specs.Lent.{Lent}
-use Rattle.book.specs.Booking.{book}
+use Rattle.book.specs.Booking.{lentAfter, book}
 use Rattle.book.specs.Asked.{lineAsked}
 use Rattle.book.specs.declared.answer.Booked.{Booked}
 
@@ -101,9 +102,16 @@ abbrev pub says : Call → List ℕ → Checked
 says reads s = check s fullTable .said
 says books s = record { answer = book s schools (roomy 1 1) .said .answer; place = book s schools (roomy 1 1) .said .place; fields = 0 }
 
+-- rooms for so many lines and slips with X entered, and with X and Y
+abbrev pub withX : ℕ → ℕ → Lent
+withX lines slips = lentAfter Order X (roomy lines slips) 0
+
+abbrev pub withBoth : ℕ → ℕ → Lent
+withBoth lines slips = lentAfter Goods Y (withX lines slips) 0
+
 -- the book after X and Y, and books with one thing broken
 abbrev pub two : Lent
-two = book Y schools (book X schools (roomy 2 2) .lent) .lent
+two = withBoth 2 2
 
 abbrev withLines : (List ℕ → List ℕ) → Lent
 withLines f = record { lines = f (two .lines); slips = two .slips; used = two .used }

@@ -1,6 +1,6 @@
 -- Cases for the order of booking's answers: each pair of neighbours where both hold at once, and 15, 19 and 21 by themselves, in rooms of one line and one slip.
 use Prim.Native.Nat.{ℕ, suc, _*_}
-use mathlib.Core.Bool.{_&&_}
+use mathlib.Core.Bool.{Bool, _&&_}
 use mathlib.Core.List.{List, [], _∷_, _++_}
 use lib.Dec.{eqb}
 use lib.ListN.{replicate, take}
@@ -12,7 +12,8 @@ use Rattle.record.specs.Samples.{X, Y, Z, put}
 use Rattle.entry.specs.Stored.{mostArrived, markAt, arrivedAt}
 use Rattle.book.specs.Lent.{Lent}
 use Rattle.book.specs.Booking.{book}
-use Rattle.book.specs.Cases.{roomy, schools}
+use Rattle.book.specs.Cases.{roomy, schools, withX, withBoth}
+use Rattle.book.specs.declared.answer.Booked.{Booked}
 
 -- a record that meets a roster, given to a lent book, with the answer and place that it must give
 pub record Trial : Type 0 where
@@ -29,9 +30,9 @@ trial s b a p = record { given = s; roster = schools; lent = b; answer = a; plac
 abbrev pub meets : List ℕ → List ℕ → Lent → ℕ → Trial
 meets s roster b a = record { given = s; roster = roster; lent = b; answer = a; place = 0 }
 
--- X and Y booked into room for so many slips, beside one line
+-- X and Y in room for so many slips, beside one line
 abbrev pub booked : ℕ → Lent
-booked slips = book Y schools (book X schools (roomy 1 slips) .lent) .lent
+booked slips = withBoth 1 slips
 
 -- all of its room is used
 abbrev pub full : Lent
@@ -104,7 +105,7 @@ abbrev pub other : List ℕ
 other = put 36 "A-18      " X
 
 abbrev pub room : Lent
-room = book X schools (roomy 2 1) .lent
+room = withX 2 1
 
 abbrev pub marked : ℕ → Lent
 marked m = lineSet markAt (m ∷ []) room
@@ -150,9 +151,11 @@ rosterTrials =
     ∷ meets (put 4 "43211     " X) (only 500 ++ entry "43211     VD" 10) room 0  -- another school's copies are not counted
     ∷ []
 
+-- it answers as it must
+abbrev pub agrees : Booked → Trial → Bool
+agrees said t = eqb (said .answer) (t .answer) && eqb (said .place) (t .place)
+
 -- the number, from n on, of the first trial that is not as it should be; 0 where all are
 unfoldable pub firstWrong : ℕ → List Trial → ℕ
 firstWrong n [] = 0
-firstWrong n (t ∷ ts) =
-    pick (eqb (book (t .given) (t .roster) (t .lent) .said .answer) (t .answer) && eqb (book (t .given) (t .roster) (t .lent) .said .place) (t .place))
-    (firstWrong (suc n) ts) n
+firstWrong n (t ∷ ts) = pick (agrees (book (t .given) (t .roster) (t .lent) .said) t) (firstWrong (suc n) ts) n

@@ -14,8 +14,9 @@ use Rattle.book.specs.Lent.{Lent}
 use Rattle.book.specs.Booking.{book, bookRead}
 use Rattle.feed.specs.Cut.{cut, mostHeld, heldOf, firsts, fedFrom}
 use Rattle.feed.proofs.Fed.{held-whole, held-over, file-cuts}
-use Rattle.desk.specs.Printed.{kindLetter, bookOwn, bookEach}
-use Rattle.desk.proofs.Own.{own-sound}
+use Rattle.own.specs.Own.{bookOwn}
+use Rattle.own.proofs.Own.{own-sound}
+use Rattle.desk.specs.Printed.{kindLetter, bookEach}
 
 -- an over-long record is refused as such, whatever it holds
 long-judged : (s : List ℕ) → 1024 < length s → judged s ≡ Refused TooLong

@@ -1,12 +1,12 @@
--- `desk::book_own` meets its contract.
+-- `own::book_own` meets its contract.
 use mathlib.Core.Path.{_∙_}
 use native.Mathlib.Omega.{arith}
 use Rattle.cells.proofs.Parts.{nothing}
-use Rattle.desk.specs.Printed.{bookOwn}
-use Rattle.desk.proofs.Own.{own-none, own-some}
+use Rattle.own.specs.Own.{bookOwn}
+use Rattle.own.proofs.Own.{own-none, own-some}
 use borrow.Author.Needs.{needs}
-use Rattle.desk.proofs.book_own.Statement.{statement}
-use Rattle.desk.proofs.book_own.Tie as tie
+use Rattle.own.proofs.book_own.Statement.{statement}
+use Rattle.own.proofs.book_own.Tie as tie
 
 part-requires : tie.Need-part-requires
 part-requires c κs = search needs

@@ -1,4 +1,4 @@
--- `desk::own_entry` meets its contract: account and ceiling fill the entry.
+-- `own::own_entry` meets its contract: account and ceiling fill the entry.
 use mathlib.Core.Path.{_≡_, refl}
 use mathlib.Core.List.{List, [], _∷_}
 use Prim.Native.Nat.{ℕ, _≤_}
@@ -10,11 +10,11 @@ use Rattle.cells.specs.Little.{leBytes}
 use Rattle.cells.proofs.Filled.{filled-whole, filled-first, filled-next, filled-end}
 use Rattle.roster.specs.Roster.{entryWidth, accountWidth, ceilingWidth, highestCeiling}
 use Rattle.record.specs.Layout.{kindOf}
-use Rattle.desk.specs.Printed.{partiesEnd, accountBy, ownEntry}
-use Rattle.desk.proofs.Own.{account-wide}
+use Rattle.own.specs.Own.{partiesEnd, accountBy, ownEntry}
+use Rattle.own.proofs.Own.{account-wide}
 use borrow.Author.Needs.{needs}
-use Rattle.desk.proofs.own_entry.Statement.{statement}
-use Rattle.desk.proofs.own_entry.Tie as tie
+use Rattle.own.proofs.own_entry.Statement.{statement}
+use Rattle.own.proofs.own_entry.Tie as tie
 
 -- an array that account and ceiling fill is the entry
 entry-filled : (s d e : List ℕ) → partiesEnd ≤ length s → d ≡ sets (replicate entryWidth 0) 0 (accountBy (kindOf s) s)

@@ -1,10 +1,10 @@
--- `desk::own_account` meets its contract.
+-- `own::own_account` meets its contract.
 use mathlib.Core.Path.{_∙_, sym, ap}
 use Rattle.record.specs.declared.layout.Kinded.the-variants.{Known}
-use Rattle.desk.specs.Printed.{accountBy}
+use Rattle.own.specs.Own.{accountBy}
 use borrow.Author.Needs.{needs}
-use Rattle.desk.proofs.own_account.Statement.{statement}
-use Rattle.desk.proofs.own_account.Tie as tie
+use Rattle.own.proofs.own_account.Statement.{statement}
+use Rattle.own.proofs.own_account.Tie as tie
 
 kind-of-requires : tie.Need-kind-of-requires
 kind-of-requires c κs = search needs
