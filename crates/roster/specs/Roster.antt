@@ -17,6 +17,12 @@ use Rattle.roster.specs.declared.Standing.the-variants.{On, Off}
 abbrev pub entryWidth : ℕ
 entryWidth = 16
 
+abbrev pub addressWidth : ℕ
+addressWidth = 10
+
+abbrev pub qualifierWidth : ℕ
+qualifierWidth = 2
+
 abbrev pub accountWidth : ℕ
 accountWidth = 12
 

@@ -10,7 +10,7 @@ use Rattle.cells.specs.Little.{leBytes}
 use Rattle.cells.specs.Search.{firstFrom}
 use Rattle.cells.specs.declared.search.Found.{Found}
 use Rattle.cells.specs.declared.search.Found.the-variants.{At, Nothing}
-use Rattle.roster.specs.Roster.{ceilingWidth, mostSchools}
+use Rattle.roster.specs.Roster.{addressWidth, qualifierWidth, ceilingWidth, mostSchools}
 use Rattle.roster.specs.declared.Standing.{Standing}
 use Rattle.roster.specs.declared.Standing.the-variants.{On, Off}
 use Rattle.roster.specs.declared.schools.School.{School}
@@ -74,8 +74,8 @@ bytesOf (s ∷ ss) = bytesOfOne s ++ bytesOf ss
 
 -- what the type says of a school in memory: ten bytes, two bytes, and a number of four
 pub record Formed (s : School) : Type 0 where
-  pub address-is : length (s .address) ≡ 10
-  pub qualifier-is : length (s .qualifier) ≡ 2
+  pub address-is : length (s .address) ≡ addressWidth
+  pub qualifier-is : length (s .qualifier) ≡ qualifierWidth
   pub ceiling-fits : s .ceiling < 2 ^ 32
 
 abbrev pub AllFormed : List School → Type 0
