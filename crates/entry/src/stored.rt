@@ -12,7 +12,6 @@ use cells::little::get4;
 use cells::little::put2;
 use cells::little::put4;
 use cells::paste_at;
-use cells::same;
 use cells::same_by;
 use rules::amount::Copies;
 
@@ -22,6 +21,9 @@ pub const KEY_WIDTH: usize = 49;
 
 // Where most keys of lines differ: the last eight bytes of the reference.
 pub const KEY_TELLS: usize = 26;
+
+// Where most schools differ: the front of the address.
+pub const SCHOOL_TELLS: usize = 0;
 
 pub const MARK_AT: usize = 51;
 
@@ -96,7 +98,7 @@ fn school_is(lines: &[u8], i: usize, school: &[u8]) -> bool
 {
     let at = LINE_WIDTH * i;
     let end = at + SCHOOL_WIDTH;
-    same(&lines[at..end], school)
+    same_by(&lines[at..end], school, SCHOOL_TELLS)
 }
 
 // The open copies of the line with an index where it is a school's, else none.

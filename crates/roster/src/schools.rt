@@ -33,8 +33,11 @@ fn is_of(school: School, address: &[u8], qualifier: &[u8]) -> bool
     ensures { λ r. ⌜ r ≡ isOf school (now (address .entry)) (now (qualifier .entry)) ⌝ }
 {
     let a = school.address;
+    if !same(&a, address) {
+        return false;
+    }
     let q = school.qualifier;
-    same(&a, address) & same(&q, qualifier)
+    same(&q, qualifier)
 }
 
 // Whether the school with an index has an account.

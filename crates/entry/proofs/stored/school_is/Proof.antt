@@ -13,23 +13,23 @@ mul-at c = search needs
 add-end : tie.Need-add-end
 add-end c = search needs
 
-sub-same : tie.Need-sub-same
-sub-same c = search needs
+sub-same-by : tie.Need-sub-same-by
+sub-same-by c = search needs
 
-part-same-start : tie.Need-part-same-start
-part-same-start c = search needs
+part-same-by-start : tie.Need-part-same-by-start
+part-same-by-start c = search needs
 
-part-same-end : tie.Need-part-same-end
-part-same-end c = search needs
+part-same-by-end : tie.Need-part-same-by-end
+part-same-by-end c = search needs
 
-same-requires : tie.Need-same-requires
-same-requires c κs = search needs
+same-by-requires : tie.Need-same-by-requires
+same-by-requires c κs = search needs
 
 returns : tie.Need-returns
 unfolding schoolIs schoolAt
 returns c =
     let a = c .before .before .before .before .args in
-    rw (← part-is (56 * a .i) (56 * a .i + 12) (a .lines .now) (omega arith)) (c .same .ensures)
+    rw (← part-is (56 * a .i) (56 * a .i + 12) (a .lines .now) (omega arith)) (c .same-by .ensures)
 
 pub school-is-spec : {M : Type 1} → statement M
 school-is-spec =
@@ -37,8 +37,8 @@ school-is-spec =
     (tie.spec
     mul-at
     add-end
-    sub-same
-    part-same-start
-    part-same-end
-    same-requires
+    sub-same-by
+    part-same-by-start
+    part-same-by-end
+    same-by-requires
     returns)
