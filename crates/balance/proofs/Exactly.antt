@@ -21,11 +21,10 @@ use Rattle.roster.specs.declared.Standing.the-variants.{On}
 use Rattle.book.specs.Booking.{lineKey, slipKey, schoolIn, copiesIn, newLineJudged, orderJudged, arrivalJudged, goodsJudged, deliveryJudged, reportJudged, bookJudged}
 use Rattle.cells.specs.declared.search.Found.the-variants.{At, Nothing}
 use Rattle.book.specs.declared.answer.Verdict.the-variants.{Fits}
-use Rattle.cells.proofs.Searches.{found-at, none-at}
+use Rattle.cells.proofs.Searches.{found-at, none-at, first-is, none-is, first-so}
 use Rattle.balance.specs.Met.{Met}
 use Rattle.balance.specs.Calls.{bookCall}
 use Rattle.balance.specs.Accepted.{NoLineWith, NoSlipWith, LineWith, OnRoster, Passes, Acceptable, AcceptedExactly}
-use Rattle.balance.proofs.Listings.{first-is, none-is, first-so}
 use Rattle.balance.proofs.Accepted.{Refuses, Accepts, refused-or-accepted}
 use Rattle.balance.proofs.Followed.{fit-passed, order-fits, delivery-fits, report-fits}
 use Rattle.balance.proofs.Numbers.{verdictNumber, fit-answer}

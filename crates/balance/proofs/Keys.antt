@@ -12,7 +12,7 @@ use Rattle.ledger.specs.Book.{schoolOf}
 use Rattle.book.specs.Booking.{keyFields, lineKey, schoolIn, fieldsIn}
 use Rattle.cells.specs.Bytes.{same, all, joined}
 use Rattle.cells.proofs.Bools.{split, and-left, and-right}
-use Rattle.cells.proofs.Lists.{same-lengths}
+use Rattle.cells.proofs.Lists.{same-lengths, same-joined}
 use Rattle.record.specs.Layout.{noField, layout, fixedWidth}
 use Rattle.record.specs.Values.{fieldBytes}
 use Rattle.record.specs.declared.layout.Kind.{Kind}
@@ -20,16 +20,6 @@ use Rattle.record.specs.declared.layout.Kind.the-variants.{Order}
 use Rattle.record.proofs.Kept.{field-length}
 use Rattle.book.specs.Asked.{areWide}
 use Rattle.balance.specs.Demand3.{sameFields}
-
--- parts of one length are the same where each is
-same-append : (a b x y : List ℕ) → length a ≡ length b → same (a ++ x) (b ++ y) ≡ same a b && same x y
-unfolding same
-same-append [] [] x y e = refl
-same-append [] (c ∷ b) x y e = absurd (omega arith)
-same-append (c ∷ a) [] x y e = absurd (omega arith)
-same-append (c ∷ a) (d ∷ b) x y e =
-    let ih = same-append a b x y (omega arith) in
-    split (eqb c d) (λ t. rw t ih) (λ t. rw t refl)
 
 -- fields that are the same as fields of these lengths have these lengths, and make the same key
 pub same-fields : (ws : List ℕ) (fs gs : List (List ℕ)) → areWide ws gs ≡ true → sameFields fs gs ≡ areWide ws fs && same (joined fs) (joined gs)
@@ -45,7 +35,7 @@ same-fields (w ∷ ws) (f ∷ fs) (g ∷ gs) h =
     split (eqb (length f) w)
     (λ t.
     let e = eqb-true (length f) w t in
-    rw (t, same-append f g (joined fs) (joined gs) (e ∙ sym long), ih)
+    rw (t, same-joined f (joined fs) g (joined gs) (e ∙ sym long), ih)
     (split (same f g) (λ u. rw u refl) (λ u. rw u (split (areWide ws fs) (λ v. rw v refl) (λ v. rw v refl)))))
     (λ t. rw (t, same-lengths f g (λ e. eqb-false (length f) w t (e ∙ long))) refl)
 

@@ -1,60 +1,19 @@
 -- Tests over places, and entries listed by their places: one more at the end, the first match, and a change to it.
 use mathlib.Core.Path.{_≡_, _∙_, ap, ap₂, sym, refl}
-use mathlib.Core.Bool.{Bool, true, false}
+use mathlib.Core.Bool.{Bool}
 use mathlib.Core.Logic.{_≢_}
 use mathlib.Core.Option.{none, some}
 use mathlib.Core.List.{List, [], _∷_, _++_}
 use Prim.Native.Nat.{ℕ, zero, suc, _+_, _≤_, _<_}
-use native.Mathlib.Decide.{decLe}
 use native.Mathlib.Nat.{add-zero}
 use native.Mathlib.Omega.{arith}
 use lib.ListN.{length}
-use Rattle.cells.specs.Bytes.{pick}
-use Rattle.cells.specs.Search.{firstFrom, allFrom}
+use Rattle.cells.specs.Search.{firstFrom}
 use Rattle.cells.proofs.Bools.{split}
 use Rattle.ledger.specs.Lists.{first, change}
 use Rattle.balance.specs.Told.{listed}
 use Rattle.cells.specs.declared.search.Found.the-variants.{At, Nothing}
 use Rattle.cells.proofs.Searches.{found-at}
-
--- a test that holds at each of n places from i on
-pub each-place : (p : ℕ → Bool) (n i : ℕ) → ((x : ℕ) → i ≤ x → x < i + n → p x ≡ true) → allFrom p n i ≡ true
-unfolding allFrom
-each-place p zero i h = refl
-each-place p (suc n) i h = rw (h i (omega arith) (omega arith)) (each-place p n (suc i) (λ x a c. h x (omega arith) (omega arith)))
-
--- a search finds the place at which a test holds first
-pub first-is : (p : ℕ → Bool) (n i j : ℕ) → i ≤ j → j < i + n → p j ≡ true → ((x : ℕ) → i ≤ x → x < j → p x ≡ false) → firstFrom p n i ≡ At j
-unfolding firstFrom
-first-is p zero i j a c t h = absurd (omega arith)
-first-is p (suc n) i j a c t h = side (decLe (suc i) j) (λ l. first-is p n (suc i) j l (omega arith) t (λ x d f. h x (omega arith) f))
-  where
-    side : Dec (suc i ≤ j) → (suc i ≤ j → firstFrom p n (suc i) ≡ At j) → pick (p i) (At i) (firstFrom p n (suc i)) ≡ At j
-    side (yes l) rest = rw (h i (omega arith) (omega arith)) (rest l)
-    side (no l) rest =
-        let e : i ≡ j = omega arith in
-        rw (e, t) refl
-
--- and nothing where it holds at no place
-pub none-is : (p : ℕ → Bool) (n i : ℕ) → ((x : ℕ) → i ≤ x → x < i + n → p x ≡ false) → firstFrom p n i ≡ Nothing
-unfolding firstFrom
-none-is p zero i h = refl
-none-is p (suc n) i h = rw (h i (omega arith) (omega arith)) (none-is p n (suc i) (λ x a c. h x (omega arith) (omega arith)))
-
--- before the place that a search finds the test holds nowhere
-pub first-so : (p : ℕ → Bool) (n i j : ℕ) → firstFrom p n i ≡ At j → (x : ℕ) → i ≤ x → x < j → p x ≡ false
-unfolding firstFrom
-first-so p zero i j e x a c = absurd (let z : _≡_ {A = ℕ} 0 1 = cc in omega arith)
-first-so p (suc n) i j e x a c =
-    split (p i)
-    (λ t. let d : i ≡ j = cc in absurd (omega arith))
-    (λ t. side t (decLe (suc i) x) (λ l. first-so p n (suc i) j (rw t at e) x l c))
-  where
-    side : p i ≡ false → Dec (suc i ≤ x) → (suc i ≤ x → p x ≡ false) → p x ≡ false
-    side t (yes l) rest = rest l
-    side t (no l) rest =
-        let d : x ≡ i = omega arith in
-        rw d t
 
 module _ {A : Type 0} where
   -- as many are listed as places

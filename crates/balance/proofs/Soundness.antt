@@ -8,10 +8,10 @@ use lib.ListN.{length}
 use borrow.Author.Tests.{le-leb, lt-ltb}
 use Rattle.cells.specs.Search.{allFrom}
 use Rattle.cells.proofs.Bools.{and-left, and-right}
+use Rattle.cells.proofs.Searches.{each-place}
 use Rattle.entry.specs.Stored.{lineWidth, slipWidth, lineSound, slipLineAt, slipSound}
 use Rattle.book.specs.Lent.{Lent, usedLines, usedSlips, mostLines, mostSlips, lineRoom, slipRoom, roomSound, sound, roomsSound}
 use Rattle.book.proofs.Sounds.{Sound}
-use Rattle.balance.proofs.Listings.{each-place}
 
 -- a book as long as a sound one, with used counts within its rooms, sound lines, and slips that name used lines, is sound
 pub still-sound : (b c : Lent) → sound b ≡ true → length (c .lines) ≡ length (b .lines) → length (c .slips) ≡ length (b .slips)

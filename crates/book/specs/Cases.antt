@@ -1,4 +1,4 @@
--- Cases of booking on bytes: the desk's eight records, the whole table of cases marked P, unsound books, and calls by key. All but the unsound books meet the desk's roster.
+-- Cases of booking on bytes: the desk's eight records, the whole table of cases marked P, unsound books, and calls by key. Each record meets one roster, `schools`.
 use Prim.Native.Nat.{ℕ, _*_}
 use mathlib.Core.List.{List, [], _∷_, _++_}
 use lib.ListN.{replicate, take, set}

@@ -7,6 +7,7 @@ use lib.ListN.{replicate, take}
 use lib.Seq.{sets}
 use Rattle.cells.specs.Bytes.{pick, bytes}
 use Rattle.cells.specs.Little.{leBytes}
+use Rattle.roster.specs.Roster.{entryWidth}
 use Rattle.roster.specs.Cases.{entry}
 use Rattle.record.specs.Samples.{X, Y, Z, put}
 use Rattle.entry.specs.Stored.{mostArrived, markAt, arrivedAt}
@@ -23,7 +24,7 @@ pub record Trial : Type 0 where
   pub answer : ℕ
   pub place : ℕ
 
--- by the desk's roster, and by another
+-- before the roster of the cases, and before another, where the place is 0
 abbrev pub trial : List ℕ → Lent → ℕ → ℕ → Trial
 trial s b a p = record { given = s; roster = schools; lent = b; answer = a; place = p }
 
@@ -93,14 +94,14 @@ trials =
     ∷ trial Z full 0 0
     ∷ []
 
--- a school of X's with a ceiling, and a roster on which X's school is not
+-- a roster of X's school alone with a ceiling, and one on which it does not stand
 abbrev pub only : ℕ → List ℕ
 only ceiling = entry "43210     VD" ceiling
 
 abbrev pub neighbour : List ℕ
 neighbour = entry "43211     VD" 500
 
--- X for another reference, and the book after X with room for a second line, with copies that arrived and a mark
+-- X for another reference; the book after X, with room for a second line; and that with a mark on X's line
 abbrev pub other : List ℕ
 other = put 36 "A-18      " X
 
@@ -116,8 +117,8 @@ rosterTrials =
     meets X (take 15 schools) (roomy 1 1) 20  -- a ragged roster, one byte short and one too long
     ∷ meets X (take 17 schools) (roomy 1 1) 20
     ∷ meets [] (take 1 schools) (roomy 1 1) 20  -- 20 before 2
-    ∷ meets X (replicate (63 * 16) 0 ++ only 10) (roomy 1 1) 0  -- 64 entries, 65 entries
-    ∷ meets X (replicate (64 * 16) 0 ++ only 10) (roomy 1 1) 20
+    ∷ meets X (replicate (63 * entryWidth) 0 ++ only 10) (roomy 1 1) 0  -- 64 entries, 65 entries
+    ∷ meets X (replicate (64 * entryWidth) 0 ++ only 10) (roomy 1 1) 20
     ∷ meets X [] (roomy 1 1) 24  -- no entries
     ∷ meets (put 36 "          " X) [] full 12  -- 12 before 24, for each kind
     ∷ meets (put 50 "          " Y) [] full 12

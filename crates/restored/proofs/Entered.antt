@@ -23,13 +23,12 @@ use Rattle.entry.proofs.Kept.{put-key, put-back, put-apart, add-back, add-key, 
 use Rattle.book.specs.Lent.{Lent, usedLines, usedSlips, lineRoom, slipRoom, findLine, findSlip}
 use Rattle.book.specs.Booking.{keyFields, slipFields, newLine}
 use Rattle.cells.specs.declared.search.Found.the-variants.{At, Nothing}
-use Rattle.cells.proofs.Searches.{none-at}
+use Rattle.cells.proofs.Searches.{none-at, sum-same, sum-more, sum-none}
 use Rattle.book.proofs.Sounds.{sound-so}
 use Rattle.balance.proofs.Found.{line-used}
 use Rattle.balance.proofs.Entered.{withLine, at, put-kept, moreLine, next, lines-after, slips-after, add-kept, moreSlip, slip-next, lines-as-before, one-slip-more, slip-kept}
 use Rattle.balance.proofs.Followed.{arrivals-bounded, mark-bounded}
 use Rattle.save.specs.Entries.{referenceAt, slipNumberAt, keyKept, partiesAgree}
-use Rattle.restored.proofs.Places.{sum-same, sum-more, sum-none}
 use Rattle.restored.proofs.Ordered.{bookedOn, Ordered}
 
 -- no line is found with a key: it is no used line's

@@ -15,8 +15,7 @@ use Rattle.cells.specs.Search.{allFrom}
 use Rattle.cells.proofs.Bools.{and-left, and-right}
 use Rattle.cells.proofs.Numbers.{le-back}
 use Rattle.cells.proofs.Parts.{to-end}
-use Rattle.cells.proofs.Searches.{all-at}
-use Rattle.balance.proofs.Listings.{each-place}
+use Rattle.cells.proofs.Searches.{all-at, each-place}
 use Rattle.save.specs.Entries.{entriesKept}
 use Rattle.save.specs.Saved.{lineKind, slipKind, endKind, savedLineWidth, savedSlipWidth, joinedFrom, endEntry, savedWidth, statedLines, statedSlips, lineIn, slipIn, allOfKind, inForm, isSave}
 use Rattle.restored.specs.Restored.{Bytes}

@@ -14,8 +14,7 @@ use Rattle.record.specs.declared.layout.Kind.the-variants.{Goods}
 use Rattle.entry.specs.Stored.{lineWidth, keyWidth, markAt, arrivedAt, slipKeyWidth, mostCopies, mostArrived, lineAt, lineSound, slipLineAt, slipSound}
 use Rattle.book.specs.Lent.{Lent, usedLines, usedSlips, lineRoom, slipRoom, sound, roomsSound}
 use Rattle.book.specs.Booking.{keyFields, slipFields}
-use Rattle.cells.proofs.Searches.{all-at}
-use Rattle.balance.proofs.Listings.{each-place}
+use Rattle.cells.proofs.Searches.{all-at, each-place}
 use Rattle.save.specs.Entries.{referenceAt, slipNumberAt, keyKept, lineKept, slipKept, partiesAgree, lineIndex, slipCopies, isFirst, arrivedOn, linesKept, slipsKept, sumsKept, entriesKept}
 use Rattle.save.specs.Saved.{lineBodyAt, slipBodyAt}
 use Rattle.restored.proofs.Bodies.{line-copies, line-mark, slip-line}

@@ -1,6 +1,5 @@
 pub mod Cuts
 pub mod Joined
-pub mod Places
 pub mod Views
 pub mod Bodies
 pub mod Kept

@@ -11,18 +11,17 @@ use Rattle.cells.specs.Bytes.{pick, within, same}
 use Rattle.cells.specs.Little.{leAt}
 use Rattle.cells.specs.Search.{sumFrom}
 use Rattle.cells.proofs.Bools.{and-left, and-right}
+use Rattle.cells.proofs.Searches.{each-place, sum-same}
 use Rattle.record.specs.declared.layout.Kind.the-variants.{Goods}
 use Rattle.entry.specs.Stored.{lineWidth, keyWidth, markAt, arrivedAt, slipKeyWidth, mostCopies, mostArrived, lineAt, keyAt, lineSound, slipKeyAt, slipLineAt, slipCopiesAt}
 use Rattle.entry.proofs.Sound.{sound-bounded}
 use Rattle.book.specs.Lent.{Lent, usedLines, usedSlips}
 use Rattle.book.specs.Booking.{keyFields, slipFields}
 use Rattle.book.proofs.Sounds.{sound-so}
-use Rattle.balance.proofs.Listings.{each-place}
 use Rattle.balance.proofs.Soundness.{Kept}
 use Rattle.save.specs.Entries.{referenceAt, slipNumberAt, keyKept, lineKept, partiesAgree, slipKept, isFirst, copiesOn, arrivedOn, linesKept, slipsKept, sumsKept, entriesKept}
 use Rattle.save.specs.Saved.{lineBodyAt, slipBodyAt}
 use Rattle.restored.specs.Restored.{Orderly}
-use Rattle.restored.proofs.Places.{sum-same}
 use Rattle.restored.proofs.Bodies.{line-key, line-copies, line-mark, slip-key, slip-line, slip-copies, parties-keys}
 
 -- the copies of the slip at j where it names the line at i, else none

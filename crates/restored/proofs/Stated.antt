@@ -12,6 +12,7 @@ use lib.Dec.{eqb, ltb}
 use Rattle.cells.specs.Bytes.{pick, same}
 use Rattle.cells.specs.Search.{firstFrom, sumFrom}
 use Rattle.cells.proofs.Bools.{split}
+use Rattle.cells.proofs.Searches.{none-is, first-is, sum-more, sum-less}
 use Rattle.cells.proofs.Lists.{same-refl}
 use Rattle.roster.specs.Roster.{highestCeiling}
 use Rattle.entry.specs.Stored.{mostCopies}
@@ -25,7 +26,6 @@ use Rattle.cells.specs.declared.search.Found.the-variants.{At}
 use Rattle.balance.specs.Told.{listed}
 use Rattle.balance.proofs.Listings.{listed-length, listed-same, listed-more, none-listed, first-listed, change-listed}
 use Rattle.restored.specs.History.{ordersOf, deliveriesOf, reportOn, reportsOf, historyOf}
-use Rattle.restored.proofs.Places.{none-there, first-there, sum-more, sum-less}
 
 -- one more entry is listed last
 listed-next : {A : Type 0} (f : ℕ → A) (k : ℕ) → listed f (suc k) 0 ≡ listed f k 0 ++ (f k ∷ [])
@@ -109,7 +109,7 @@ module _ (rooms : Rooms) (n m : ℕ) (line : ℕ → Line) (slip : ℕ → Slip)
   -- each line is the first with its key
   own-line : (i : ℕ) → i < n → firstFrom (λ x. same (line i .key) (line x .key)) n 0 ≡ At i
   own-line i h =
-      first-there (λ x. same (line i .key) (line x .key)) n 0 i (omega arith) (omega arith) (same-refl (line i .key)) (λ x a c. s .line-new x i c h)
+      first-is (λ x. same (line i .key) (line x .key)) n 0 i (omega arith) (omega arith) (same-refl (line i .key)) (λ x a c. s .line-new x i c h)
 
   -- an order is accepted
   order-allowed : (k : ℕ) → k < n → judge rooms (orderBook k) (order (line k .key) (line k .asked) highestCeiling) ≡ done
@@ -119,7 +119,7 @@ module _ (rooms : Rooms) (n m : ℕ) (line : ℕ → Line) (slip : ℕ → Slip)
       let school : Key = schoolOf (line k .key) in
       let most = open-most school (arrivedBy 0) k 0 (λ x a c. omega (arith, open-ordered (arrivedBy 0 x), s .small x (omega arith))) in
       let below : openOf school (listed (arrivedBy 0) k 0) + line k .asked .copies ≤ highestCeiling = omega (arith, most, s .small k h, s .few) in
-      rw (none-listed (λ (l : Line). same (line k .key) (l .key)) p (arrivedBy 0) (λ x. refl) k 0 (none-there p k 0 (λ x a c. s .line-new x k (omega arith) h)), le-ltb highestCeiling (openOf school (listed (arrivedBy 0) k 0) + line k .asked .copies) below, listed-length (arrivedBy 0) k 0, lt-leb (rooms .forLines) k (omega (arith, s .lines-fit)))
+      rw (none-listed (λ (l : Line). same (line k .key) (l .key)) p (arrivedBy 0) (λ x. refl) k 0 (none-is p k 0 (λ x a c. s .line-new x k (omega arith) h)), le-ltb highestCeiling (openOf school (listed (arrivedBy 0) k 0) + line k .asked .copies) below, listed-length (arrivedBy 0) k 0, lt-leb (rooms .forLines) k (omega (arith, s .lines-fit)))
 
   -- so are all, and give the lines with nothing arrived
   orders-give : (k : ℕ) → k ≤ n → Gives rooms (ordersOf (listed line k 0)) (orderBook k)
@@ -141,7 +141,7 @@ module _ (rooms : Rooms) (n m : ℕ) (line : ℕ → Line) (slip : ℕ → Slip)
       let i : ℕ = at j in
       let u : i < n = s .used j h in
       let p : ℕ → Bool = λ x. same (slip j .says .slip) (slip x .says .slip) in
-      let none-yet = none-listed (λ (t : Slip). same (slip j .says .slip) (t .says .slip)) p slip (λ x. refl) j 0 (none-there p j 0 (λ x a c. s .slip-new x j (omega arith) h)) in
+      let none-yet = none-listed (λ (t : Slip). same (slip j .says .slip) (t .says .slip)) p slip (λ x. refl) j 0 (none-is p j 0 (λ x a c. s .slip-new x j (omega arith) h)) in
       let there = first-listed (λ (l : Line). same (slip j .line) (l .key)) (λ x. same (slip j .line) (line x .key)) (arrivedBy j) (λ x. refl) n 0 i (line-named j h) in
       let own : share slip at i j ≡ slip j .says .copies = rw (eq-eqb (at j) i refl) in
       let sum : sumFrom (share slip at i) j 0 + slip j .says .copies ≤ mostArrived =

@@ -8,10 +8,10 @@ use lib.Dec.{leb, ltb}
 use lib.ListN.{take}
 use borrow.Author.Tests.{ltb-true}
 use Rattle.cells.specs.Bytes.{same, within}
+use Rattle.cells.proofs.Searches.{all-same, sum-same}
 use Rattle.entry.specs.Stored.{keyWidth, slipKeyWidth, mostArrived, mostCopies}
 use Rattle.book.specs.Booking.{slipFields}
 use Rattle.save.specs.Entries.{lineKept, slipKept, keyKept, slipNumberAt, slipCopies, partiesAgree, lineIndex, isFirst, copiesOn, arrivedOn, linesKept, slipsKept, sumsKept, entriesKept}
-use Rattle.restored.proofs.Places.{all-same, sum-same}
 
 -- a test that counts only where another holds
 and-same : (t p q : Bool) → (t ≡ true → p ≡ q) → t && p ≡ t && q

@@ -1,38 +1,26 @@
 -- The two forms say the same: over the bytes of the same schools the search finds the same place, and each entry has the school's ceiling.
 use mathlib.Core.Path.{_≡_, refl, sym, _∙_, ap}
-use mathlib.Core.Bool.{Bool, _&&_}
 use mathlib.Core.Logic.{_⊎_, inl, inr}
 use mathlib.Core.List.{List, [], _∷_, _++_, append-assoc}
-use Prim.Native.Nat.{ℕ, zero, suc, _+_, _*_, _%_, _≤_, _<_}
+use Prim.Native.Nat.{ℕ, zero, suc, _+_, _*_, _%_, _<_}
 use native.Mathlib.Nat.{add-suc}
 use native.Mathlib.Omega.{arith}
-use lib.Dec.{leb, eqb}
+use lib.Dec.{leb}
 use lib.ListN.{length, getD, take, drop, length-append}
 use lib.Seq.{slice, take-at, getD-append-add, take-append-add, drop-append-add}
 use Rattle.cells.specs.Bytes.{pick, same}
 use Rattle.cells.specs.Little.{leAt, leBytes}
-use Rattle.cells.specs.Search.{firstFrom}
 use Rattle.cells.specs.declared.search.Found.{Found}
 use Rattle.cells.specs.declared.search.Found.the-variants.{At, Nothing}
-use Rattle.cells.proofs.Bools.{split, and-left, and-right}
-use Rattle.cells.proofs.Lists.{same-true}
+use Rattle.cells.proofs.Bools.{and-left, and-right}
+use Rattle.cells.proofs.Lists.{same-true, same-joined}
 use Rattle.cells.proofs.Numbers.{le-back}
-use Rattle.cells.proofs.Searches.{found-at}
+use Rattle.cells.proofs.Searches.{found-at, first-same}
 use Rattle.roster.specs.Roster.{mostSchools, entries, rosterSound, accountAt, accountIs, findAccount, ceilingAt, standingAt, standing}
 use Rattle.roster.specs.Schools.{noSchool, isOf, isAccount, findSchool, ceilingOf, standingAmong, standingOf, notTold, toldOf, accountTold, bytesOfOne, bytesOf, Formed, AllFormed}
 use Rattle.roster.specs.Agreement.{Agreement}
 use Rattle.roster.specs.declared.Standing.the-variants.{Off}
 use Rattle.roster.specs.declared.schools.School.{School}
-
--- lists joined are the same just where their parts are
-same-joined : (a b c d : List ℕ) → length a ≡ length c → same (a ++ b) (c ++ d) ≡ same a c && same b d
-unfolding same
-same-joined [] b [] d e = refl
-same-joined [] b (z ∷ c) d e = absurd (omega (arith, e))
-same-joined (x ∷ a) b [] d e = absurd (omega (arith, e))
-same-joined (x ∷ a) b (z ∷ c) d e =
-    let ih = same-joined a b c d (omega (arith, e)) in
-    split (eqb x z) (λ t. rw t ih) (λ t. rw t refl)
 
 -- past a list that stands in front: a number, and a part
 module _ (xs ys : List ℕ) (n : ℕ) (wide : length xs ≡ n) where
@@ -50,13 +38,6 @@ module _ (xs ys : List ℕ) (n : ℕ) (wide : length xs ≡ n) where
 number-front : (n : ℕ) (ys : List ℕ) → leAt (leBytes 4 n ++ ys) 0 4 ≡ leAt (leBytes 4 n) 0 4
 unfolding leAt leBytes
 number-front n ys = refl
-
--- tests that agree at each of n places from i on find the same
-first-same : (p q : ℕ → Bool) (n i : ℕ) → ((j : ℕ) → i ≤ j → j < i + n → p j ≡ q j) → firstFrom p n i ≡ firstFrom q n i
-unfolding firstFrom
-first-same p q zero i h = refl
-first-same p q (suc n) i h =
-    rw (h i (omega arith) (omega arith), first-same p q n (suc i) (λ j a b. h j (omega arith) (omega arith))) refl
 
 -- a school has 16 bytes, of which the first 12 are its account
 account-length : (s : School) → Formed s → length (s .address ++ s .qualifier) ≡ 12
