@@ -13,10 +13,20 @@ static int is_capital(uint8_t byte)
     return byte >= 'A' && byte <= 'Z';
 }
 
-/* Allowed bytes: 32 to 126 and 160 to 255. */
+/* Typographic marks: "dashes and quotes from 128 to 159 .. except 129, 141, 143, 144 and 157,
+   which Windows-1252 leaves unassigned". */
+static int is_typographic_mark(uint8_t byte)
+{
+    switch (byte) {
+    case 129: case 141: case 143: case 144: case 157: return 0;
+    default: return byte >= 128 && byte <= 159;
+    }
+}
+
+/* Allowed bytes: 32 to 126 and 160 to 255, and by document 02 the typographic marks. */
 int ref_is_allowed(uint8_t byte)
 {
-    return (byte >= 32 && byte <= 126) || byte >= 160;
+    return (byte >= 32 && byte <= 126) || byte >= 160 || is_typographic_mark(byte);
 }
 
 /* The place of the first byte that is not allowed, or the length. */
