@@ -116,8 +116,7 @@ static void fill_content(struct dice *dice, size_t class, uint8_t *content, size
         case 1: content[i] = (uint8_t)between(dice, 'A', 'Z'); break;
         case 2: content[i] = (uint8_t)few[below(dice, sizeof few - 1)]; break;
         default:
-            content[i] = (uint8_t)(chance(dice, 3) ? between(dice, 160, 255)
-                                                   : between(dice, 43, 126));
+            content[i] = (uint8_t)(chance(dice, 3) ? high_byte(dice) : between(dice, 43, 126));
         }
 }
 

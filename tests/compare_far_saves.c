@@ -49,13 +49,13 @@ struct fault { size_t place, width; const char *bytes; };
 
 /* Reference, article, its qualifier, copies and mark of a saved line. */
 static const struct fault line_faults[] = {
-    {25, 1, " "}, {34, 1, "\x7f"}, {35, 1, "x"}, {48, 2, "EX"}, {50, 2, "\0\0"},
+    {25, 1, " "}, {34, 1, "\x7f"}, {34, 1, "\x81"}, {35, 1, "x"}, {48, 2, "EX"}, {50, 2, "\0\0"},
     {50, 2, "\x10\x27"}, {52, 1, "\3"}
 };
 
 /* Supplier, school, date, slip number, position and copies of a saved slip. */
 static const struct fault slip_faults[] = {
-    {1, 1, "3"}, {13, 1, "X"}, {25, 8, "20230229"}, {33, 1, " "}, {42, 1, "\x9f"}, {46, 1, "/"},
+    {1, 1, "3"}, {13, 1, "X"}, {25, 8, "20230229"}, {33, 1, " "}, {42, 1, "\x9d"}, {46, 1, "/"},
     {49, 2, "\0\0"}, {49, 2, "\x10\x27"}
 };
 

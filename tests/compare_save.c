@@ -50,7 +50,7 @@ static void any_shelf(struct dice *dice, struct shelf *shelf, size_t most)
 /* A save cut at every length, damaged at every byte, and with bytes behind it. */
 static void load_damaged(struct dice *dice)
 {
-    static const uint8_t values[] = {0, 1, 2, 3, ' ', '*', '0', '9', 'A', 'X', 127, 160, 255};
+    static const uint8_t values[] = {0, 1, 2, 3, ' ', '*', '0', '9', 'A', 'X', 255};
     static struct shelf shelf, fresh;
     uint8_t saved[2000], damaged[2000];
     size_t length = make_save(dice, saved, between(dice, 1, 3), below(dice, 4), 0);
@@ -66,7 +66,8 @@ static void load_damaged(struct dice *dice)
             memcpy(damaged, saved, length);
             damaged[place] = i == 0 ? (uint8_t)(saved[place] + 1)
                            : i == 1 ? (uint8_t)(saved[place] - 1)
-                           : values[below(dice, sizeof values)];
+                           : i == 2 ? values[below(dice, sizeof values)]
+                           : odd_byte(dice, saved[place]);
             shelf = fresh;
             both_load(damaged, length, &shelf);
         }

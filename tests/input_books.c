@@ -42,16 +42,29 @@ void stock_shelf(struct dice *dice, struct shelf *shelf, size_t lines, size_t sl
     shelf->used[1] = lines > 0 ? slips : 0;
 }
 
+/* A name of a letter and a number, and behind it the typographic marks in turn, or a blank
+   where there is none. */
+static void unique_name(uint8_t *name, char letter, size_t number)
+{
+    enum { DIGITS = 6, TURN = IN_LAST_TYPOGRAPHIC - IN_FIRST_TYPOGRAPHIC + 1 };
+    uint8_t mark = (uint8_t)(IN_FIRST_TYPOGRAPHIC + number % TURN);
+    memset(name, ' ', IN_NAME);
+    name[0] = (uint8_t)letter;
+    put_digits(name + 1, DIGITS, number);
+    if (is_typographic(mark))
+        name[1 + DIGITS] = mark;
+}
+
 void unique_line_key(uint8_t *key, size_t number)
 {
-    memcpy(key, "43210     VD24000     VDR         9783442756841EN", IN_KEY);
-    put_digits(key + 25, 6, number);
+    memcpy(key, "43210     VD24000     VD          9783442756841EN", IN_KEY);
+    unique_name(key + IN_REFERENCE, 'R', number);
 }
 
 void unique_slip_key(uint8_t *key, size_t number)
 {
-    memcpy(key, "24000     VD43210     VD20240226S         0001", IN_SLIP_KEY);
-    put_digits(key + 33, 6, number);
+    memcpy(key, "24000     VD43210     VD20240226          0001", IN_SLIP_KEY);
+    unique_name(key + IN_SLIP_NUMBER, 'S', number);
 }
 
 static void unique_slip(struct dice *dice, uint8_t *slip, size_t number, size_t line)

@@ -60,11 +60,40 @@ void put_capitals(struct dice *dice, uint8_t *to, size_t width)
         to[i] = (uint8_t)('A' + below(dice, 26));
 }
 
+/* The allowed bytes, stated here a second time on purpose: the ends of each run of them. */
+int is_allowed(uint8_t byte)
+{
+    static const uint8_t runs[][2] = {
+        {32, 126}, {128, 128}, {130, 140}, {142, 142}, {145, 156}, {158, 255}
+    };
+    for (size_t i = 0; i < sizeof runs / sizeof runs[0]; i++)
+        if (byte >= runs[i][0] && byte <= runs[i][1])
+            return 1;
+    return 0;
+}
+
+/* The typographic marks that document 02 allows. */
+int is_typographic(uint8_t byte)
+{
+    return byte >= IN_FIRST_TYPOGRAPHIC && byte <= IN_LAST_TYPOGRAPHIC && is_allowed(byte);
+}
+
+/* An allowed byte from 128 on, nearly half of them typographic marks. */
+uint8_t high_byte(struct dice *dice)
+{
+    uint8_t byte;
+    do
+        byte = (uint8_t)(chance(dice, 2) ? between(dice, IN_FIRST_TYPOGRAPHIC, IN_LAST_TYPOGRAPHIC)
+                                         : between(dice, IN_LAST_TYPOGRAPHIC + 1, 255));
+    while (!is_allowed(byte));
+    return byte;
+}
+
 uint8_t allowed_byte(struct dice *dice, int order)
 {
     uint8_t byte;
     do
-        byte = (uint8_t)(chance(dice, 6) ? between(dice, 160, 255) : between(dice, 32, 126));
+        byte = (uint8_t)(chance(dice, 4) ? high_byte(dice) : between(dice, 32, 126));
     while (byte == '*' || (order && strchr("+:?'", byte) != NULL));
     return byte;
 }
@@ -74,7 +103,8 @@ uint8_t odd_byte(struct dice *dice, uint8_t byte)
 {
     static const uint8_t odd_bytes[] = {
         0, 10, 13, 31, 32, '*', '+', ':', '?', '\'', '0', '1', '2', '3', '6', '9', '/', ';', '@',
-        'A', 'B', 'J', 'L', 'M', 'N', 'U', 'X', 'Z', '[', 'x', 126, 127, 128, 159, 160, 255
+        'A', 'B', 'J', 'L', 'M', 'N', 'U', 'X', 'Z', '[', 'x', 126, 127, 128, 129, 130, 140, 141,
+        142, 143, 144, 145, 156, 157, 158, 159, 160, 255
     };
     switch (below(dice, 8)) {
     case 0: return (uint8_t)(byte + 1);
@@ -167,7 +197,7 @@ void make_line_key(struct dice *dice, size_t variety, uint8_t *key)
     static const char *const suppliers[] = {
         "24000     VD", "24000     SA", "43210     VD", "GROSSO2400IB"};
     static const char *const references[] = {
-        "A-17      ", "A-17     x", "B\xa0 2\xff     ", "ABCDEFGHIJ"};
+        "A-17      ", "A-17     \x96", "\x84Q\x93 2\xff\xa0 \x9f ", "ABCDEFGHIJ"};
     static const char *const articles[] = {
         "9783442756841EN", "344275688X   IB", "1234567      UM", "1234567      KN"};
     if (variety == 0) {
@@ -188,7 +218,7 @@ void make_slip_part(struct dice *dice, size_t variety, uint8_t *to)
 {
     static const char *const dates[] = {"20240226", "20240227", "00010101", "99991231"};
     static const char *const numbers[] = {
-        "70012345  ", "70012346  ", "*7 + '\xa0 ?:", "0         "};
+        "70012345  ", "7001234\x85  ", "*7\x80+ '\xa0\x91?:", "0         "};
     if (variety == 0) {
         make_day(dice, to);
         make_text(dice, to + 8, 10);

@@ -6,18 +6,21 @@
 
 enum {
     /* widths of the documents, stated here a second time on purpose */
-    IN_ADDRESS = 10, IN_QUALIFIER = 2, IN_PARTY = 12,
+    IN_ADDRESS = 10, IN_QUALIFIER = 2, IN_PARTY = 12, IN_NAME = 10,
     IN_KEY = 49, IN_LINE = 56, IN_SLIP_KEY = 46, IN_SLIP = 50,
     IN_SAVED_LINE = 53, IN_SAVED_SLIP = 51, IN_SAVED_END = 5,
     IN_SCHOOL = 16, IN_CEILING = 12, IN_MOST_SCHOOLS = 64,
     /* where the parts of a line, of a slip and of a delivery's fixed part start; in a save
        the byte of kind stands before a line or slip */
     IN_ORDERED = 49, IN_MARK = 51, IN_ARRIVED = 52, IN_LINE_OF_SLIP = 46, IN_COPIES = 48,
-    IN_DATE = 24, IN_DATE_TO_POSITION = 22, IN_DELIVERY_DATE = 28, IN_KIND_BYTE = 1,
+    IN_DATE = 24, IN_DATE_TO_POSITION = 22, IN_SLIP_NUMBER = 32, IN_DELIVERY_DATE = 28,
+    IN_KIND_BYTE = 1,
     IN_SAVED_LINES_COUNT = 4, IN_SAVED_SLIPS_COUNT = 2,
     IN_SENDER = 4, IN_RECIPIENT = 16, IN_REFERENCE = 24, IN_ORDER_COPIES = 61,
     IN_FULL_TABLE = 192, IN_LONGEST = 1024, IN_MOST_COPIES = 9999,
     IN_NO_MARK = 0, IN_HELD = 1, IN_LET_GO = 2,
+    /* where the typographic marks of document 02 begin and end */
+    IN_FIRST_TYPOGRAPHIC = 128, IN_LAST_TYPOGRAPHIC = 159,
     SHEET_FIELDS = 80, SHEET_CONTENTS = 8192, RECORD_ROOM = 9000,
     SHELF_LINES = 514, SHELF_SLIPS = 1026,
     FAR_ROSTER = 65536, ROSTER_ROOM = FAR_ROSTER + (IN_MOST_SCHOOLS + 3) * IN_SCHOOL,
@@ -66,6 +69,9 @@ void make_line_key(struct dice *dice, size_t variety, uint8_t *key);
 void make_slip_part(struct dice *dice, size_t variety, uint8_t *date_number_position);
 void put_random_digits(struct dice *dice, uint8_t *to, size_t width);
 void put_capitals(struct dice *dice, uint8_t *to, size_t width);
+int is_allowed(uint8_t byte);
+int is_typographic(uint8_t byte);
+uint8_t high_byte(struct dice *dice);
 uint8_t allowed_byte(struct dice *dice, int order);
 uint8_t odd_byte(struct dice *dice, uint8_t byte);
 void put_digits(uint8_t *to, size_t width, size_t number);
