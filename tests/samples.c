@@ -1,5 +1,5 @@
-/* Document 01's samples with the values it states, and document 02's clerk and his roster,
-   held against both implementations. */
+/* Document 01's samples with the values it states, document 02's clerk and his roster, and
+   titles with its typographic marks, held against both implementations. */
 #include "lending.h"
 #include "reference.h"
 
@@ -9,9 +9,10 @@
 #include <string.h>
 
 #define X "B10143210     VD24000     VD20240219A-17      9783442756841EN0010ST"
-#define Y(slip, position, copies) \
+#define Y_FIXED(slip, position, copies) \
     "L10124000     VD43210     VD20240226" slip position "A-17      9783442756841EN" \
-    copies "000000000129500LPEUR003000001*9999"
+    copies "000000000129500LPEUR003000001"
+#define Y(slip, position, copies) Y_FIXED(slip, position, copies) END
 #define Z(message) \
     "M10124000     VD43210     VD70012345  A-17      9783442756841EN" message "        0000*9999"
 #define END "*9999"
@@ -22,6 +23,8 @@ enum { DESK_LINES = 256, DESK_SLIPS = 512 };
 struct side {
     const char *name;
     wq_checked (*check)(const uint8_t *, size_t, size_t *, size_t);
+    wq_written (*write)(const uint8_t *, size_t, const size_t *, size_t, size_t,
+                        const uint8_t *, size_t, uint8_t *, size_t);
     wq_booked (*book)(const uint8_t *, size_t, const uint8_t *, size_t, uint8_t *, size_t,
                       uint8_t *, size_t, size_t *);
     wq_account_told (*account)(const wq_school *, size_t, const uint8_t *, size_t,
@@ -29,8 +32,8 @@ struct side {
 };
 
 static const struct side sides[] = {
-    {"reference", ref_check, ref_book, ref_account},
-    {"library", wq_check, wq_book, wq_account}
+    {"reference", ref_check, ref_write, ref_book, ref_account},
+    {"library", wq_check, wq_write, wq_book, wq_account}
 };
 
 /* Reading: the record, its answer and place, and the number of fields. */
@@ -49,6 +52,22 @@ static const struct { const char *record; uint64_t answer, place, fields; } read
     {X "*8888" END, 0, 0, 1},
     {X "*90901" END, 0, 0, 1},
     {X "*88889999" END, 0, 0, 1}
+};
+
+/* The goods of Y with these short titles, which begin at byte 113: answer and place. The
+   first has quotes 132 and 147 and the dash 150, the second quotes of other kinds, the third
+   all marks; then each byte between them that is not allowed. */
+#define TITLED Y_FIXED(SLIP, "0001", "0004") "*1017"
+#define QUALIFIED "*1018KL" END
+struct title_sample { const char *title; uint64_t answer, place; };
+static const struct title_sample title_samples[] = {
+    {"\x84" "Faust\x93 \x96 Teil I", 0, 0},
+    {"\x8bL\x92\xe9t\xe9\x9b \x91" "A\x92 \x82x\x94 3 \x80\x85", 0, 0},
+    {"\x80\x82\x83\x84\x85\x86\x87\x88\x89\x8a\x8b\x8c\x8e"
+     "\x91\x92\x93\x94\x95\x96\x97\x98\x99\x9a\x9b\x9c\x9e\x9f", 0, 0},
+    {"Faust\x7f", 4, 118}, {"Faust\x81", 4, 118}, {"Faust\x8d", 4, 118},
+    {"Faust\x8f", 4, 118}, {"Faust\x90", 4, 118}, {"Faust\x9d", 4, 118},
+    {"\x84" "Faust\x93 \x97 \x81 \x8d", 4, 123}
 };
 
 /* The desk program's sample: record, then answer and the five figures. */
@@ -115,6 +134,31 @@ static void run_read_samples(const struct side *side)
            "a 9999 inside a content is content");
 }
 
+/* A title is read and written back as it was, or 4 in reading and 9 in writing. */
+static void run_title_sample(const struct side *side, const struct title_sample *sample)
+{
+    char record[IN_LONGEST] = TITLED;
+    uint8_t out[IN_LONGEST] = {0};
+    size_t table[IN_FULL_TABLE] = {0}, start = strlen(record), title = strlen(sample->title);
+    const size_t told[] = {1017, start, title, 1018, start + title + strlen("*1018"), 2};
+    strcat(strcat(record, sample->title), QUALIFIED);
+    const uint8_t *bytes = (const uint8_t *)record;
+    size_t length = strlen(record), fields = sample->answer == 0 ? 2 : 0;
+    wq_checked checked = side->check(bytes, length, table, IN_FULL_TABLE);
+    wq_written written = side->write(bytes, WQ_DELIVERY_LENGTH, told, 2 * 3, 2, bytes, length,
+                                     out, sizeof out);
+    tally.calls += 2;
+    if (checked.answer != sample->answer || checked.place != sample->place
+        || checked.fields != fields)
+        differs(side, record, checked.answer, checked.place);
+    if (written.answer != (fields ? 0 : 9) || written.place != 0
+        || written.length != (fields ? length : 0))
+        differs(side, record, written.answer, written.place);
+    insist(!fields || (memcmp(table, told, sizeof told) == 0
+                       && memcmp(out, record, length) == 0),
+           "a title is told with its bytes and written back");
+}
+
 static void run_desk_sample(const struct side *side)
 {
     const struct entry highest = {OURS, WQ_HIGHEST_CEILING};
@@ -175,8 +219,11 @@ void run_samples(void)
 {
     insist(strlen(X END) == 72 && strlen(Y(SLIP, "0001", "0004")) == 113
            && strlen(Z("010N")) == 84, "X, Y and Z have document 01's lengths");
+    insist(strlen(TITLED) == 113, "a title begins behind the fixed part and its ID");
     for (size_t i = 0; i < sizeof sides / sizeof sides[0]; i++) {
         run_read_samples(&sides[i]);
+        for (size_t j = 0; j < sizeof title_samples / sizeof title_samples[0]; j++)
+            run_title_sample(&sides[i], &title_samples[j]);
         run_desk_sample(&sides[i]);
         run_roster_samples(&sides[i]);
     }
