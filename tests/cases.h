@@ -13,7 +13,8 @@ void compare_ceilings(struct dice *dice);
 void compare_accounts(struct dice *dice);
 void compare_saves(struct dice *dice);
 
-/* Few cases each, of large books and far numbers. */
+/* In few rounds: every byte, and few cases each of large books and far numbers. */
+void compare_marks(struct dice *dice);
 void compare_far_records(struct dice *dice);
 void compare_far_books(struct dice *dice);
 void compare_far_saves(struct dice *dice);
@@ -55,5 +56,8 @@ void order_at_edge(struct dice *dice, struct shelf *shelf, const uint8_t *accoun
 /* compare_save.c: a save of any sound book, loaded again, gives it back where its keys
    allow. */
 void save_and_load(struct dice *dice, struct shelf *shelf, int by_bookings);
+
+/* compare_save.c: whether both have the same counts and the same used entries. */
+int is_same_book(const struct shelf *shelf, const struct shelf *other);
 
 #endif

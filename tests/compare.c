@@ -51,7 +51,8 @@ static int print_tally(void)
     return all_seen;
 }
 
-/* One round: all families of cases from one seed; the far ones, which are slow, in few. */
+/* One round: all families of cases from one seed; those of every byte, which are many, and the
+   far ones, which are slow, in few. */
 static void run_round(uint64_t seed, uint64_t round)
 {
     struct dice dice;
@@ -67,6 +68,7 @@ static void run_round(uint64_t seed, uint64_t round)
     compare_saves(&dice);
     if (round % FAR_EVERY != 0)
         return;
+    compare_marks(&dice);
     compare_far_records(&dice);
     compare_far_books(&dice);
     compare_far_saves(&dice);

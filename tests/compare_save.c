@@ -3,6 +3,13 @@
 
 #include <string.h>
 
+int is_same_book(const struct shelf *shelf, const struct shelf *other)
+{
+    return memcmp(other->used, shelf->used, sizeof other->used) == 0
+        && memcmp(other->lines, shelf->lines, shelf->used[0] * IN_LINE) == 0
+        && memcmp(other->slips, shelf->slips, shelf->used[1] * IN_SLIP) == 0;
+}
+
 void save_and_load(struct dice *dice, struct shelf *shelf, int by_bookings)
 {
     static uint8_t saved[SAVE_ROOM];
@@ -18,12 +25,8 @@ void save_and_load(struct dice *dice, struct shelf *shelf, int by_bookings)
     if (other.slips_length > 1024 * IN_SLIP)
         other.slips_length = 1024 * IN_SLIP;
     other.used[0] = (size_t)roll(dice);
-    if (both_load(saved, length, &other) == 0 && by_bookings) {
-        insist(memcmp(other.used, shelf->used, sizeof other.used) == 0
-               && memcmp(other.lines, shelf->lines, shelf->used[0] * IN_LINE) == 0
-               && memcmp(other.slips, shelf->slips, shelf->used[1] * IN_SLIP) == 0,
-               "load of a save gives the same book");
-    }
+    if (both_load(saved, length, &other) == 0 && by_bookings)
+        insist(is_same_book(shelf, &other), "load of a save gives the same book");
 }
 
 /* Every output size up to a little over the save. */

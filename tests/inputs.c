@@ -78,6 +78,12 @@ int is_typographic(uint8_t byte)
     return byte >= IN_FIRST_TYPOGRAPHIC && byte <= IN_LAST_TYPOGRAPHIC && is_allowed(byte);
 }
 
+/* The bytes barred in an order: no quote but 39 is among them. */
+int is_barred(uint8_t byte)
+{
+    return byte != 0 && strchr("*+:?'", byte) != NULL;
+}
+
 /* An allowed byte from 128 on, nearly half of them typographic marks. */
 uint8_t high_byte(struct dice *dice)
 {
@@ -94,7 +100,7 @@ uint8_t allowed_byte(struct dice *dice, int order)
     uint8_t byte;
     do
         byte = (uint8_t)(chance(dice, 4) ? high_byte(dice) : between(dice, 32, 126));
-    while (byte == '*' || (order && strchr("+:?'", byte) != NULL));
+    while (byte == '*' || (order && is_barred(byte)));
     return byte;
 }
 

@@ -71,6 +71,7 @@ void put_random_digits(struct dice *dice, uint8_t *to, size_t width);
 void put_capitals(struct dice *dice, uint8_t *to, size_t width);
 int is_allowed(uint8_t byte);
 int is_typographic(uint8_t byte);
+int is_barred(uint8_t byte);
 uint8_t high_byte(struct dice *dice);
 uint8_t allowed_byte(struct dice *dice, int order);
 uint8_t odd_byte(struct dice *dice, uint8_t byte);

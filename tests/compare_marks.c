@@ -1,0 +1,223 @@
+/* Cases for the allowed bytes: every byte in names and contents, read, written and saved; and
+   typographic marks in what is booked. */
+#include "cases.h"
+
+#include <string.h>
+
+enum { BYTES = 256, HEAD = 5, TITLE = 5, ORDERED = 9, DELIVERED = 4 };
+
+/* An answer and its place that the documents leave. */
+struct wanted { uint64_t answer, place; };
+
+static const struct wanted done = {0, 0};
+
+/* Insists on answer and place. Counts a typographic mark that is taken, and a byte between the
+   marks that is refused; the classes of these begin with that of 127. */
+static void judge(uint8_t byte, uint64_t answer, struct wanted wanted, enum class taken,
+                  enum class refused_127)
+{
+    static const uint8_t between_marks[] = {127, 129, 141, 143, 144, 157};
+    expect(taken, is_typographic(byte), answer, wanted.answer);
+    insist(tally.place == wanted.place, "a byte is refused at its place");
+    for (size_t i = 0; i < sizeof between_marks; i++)
+        came_up((enum class)(refused_127 + i), answer != 0 && byte == between_marks[i]);
+}
+
+/* Writes the sheet, as it was assembled where it is not refused. */
+static uint64_t write_as(const struct sheet *sheet, const uint8_t *record, size_t length)
+{
+    uint8_t out[IN_LONGEST];
+    uint64_t answer = both_write(sheet, sheet->fixed_length, 3 * sheet->count,
+                                 sheet->contents_length, out, sizeof out);
+    insist(answer != 0 || (tally.value == length && memcmp(out, record, length) == 0),
+           "a record is written with the bytes that are read");
+    return answer;
+}
+
+/* A reference or a slip number in the fixed part of a record: index and place of the field,
+   and the classes of a typographic mark there. */
+struct name {
+    enum shape shape;
+    size_t index, place;
+    enum class read, written;
+};
+
+static const struct name names[] = {
+    {ORDER_SHAPE, 6, 36, MARK_READ_IN_REFERENCE, MARK_WRITTEN_IN_REFERENCE},
+    {GOODS_SHAPE, 8, 50, MARK_READ_IN_REFERENCE, MARK_WRITTEN_IN_REFERENCE},
+    {REPORT_SHAPE, 6, 38, MARK_READ_IN_REFERENCE, MARK_WRITTEN_IN_REFERENCE},
+    {GOODS_SHAPE, 6, 36, MARK_READ_IN_SLIP_NUMBER, MARK_WRITTEN_IN_SLIP_NUMBER},
+    {REPORT_SHAPE, 5, 28, MARK_READ_IN_SLIP_NUMBER, MARK_WRITTEN_IN_SLIP_NUMBER}
+};
+
+/* The byte somewhere in a name: read and written, or 4 in reading and 5 in writing. A blank in
+   front is 5 in both, and so is a barred byte of an order. */
+static void put_in_name(struct dice *dice, const struct name *name, uint8_t byte)
+{
+    static struct shelf shelf;
+    struct sheet sheet;
+    uint8_t record[RECORD_ROOM];
+    size_t at = below(dice, IN_NAME);
+    const struct wanted not_allowed = {4, name->place + at}, broken = {5, name->place},
+                        unwritten = {5, name->index};
+    int bars = name->shape == ORDER_SHAPE;
+    int breaks = (byte == ' ' && at == 0) || (bars && is_barred(byte));
+    make_sheet(dice, &sheet, name->shape, 2);
+    memcpy(sheet.fixed + name->place, "Faust II/7", IN_NAME);
+    sheet.fixed[name->place + at] = byte;
+    size_t length = assemble(&sheet, record);
+    struct wanted wanted = !is_allowed(byte) ? not_allowed : breaks ? broken : done;
+    judge(byte, both_check(record, length, IN_FULL_TABLE), wanted, name->read, BYTE_127_IS_4);
+    judge(byte, write_as(&sheet, record, length), wanted.answer == 0 ? done : unwritten,
+          name->written, BYTE_127_IS_5);
+    came_up(MARK_WHERE_OTHERS_ARE_BARRED, bars && is_typographic(byte));
+    if (is_allowed(byte))
+        return;
+    make_shelf(dice, &shelf, 1, 1);
+    expect(NOT_ALLOWED_TO_BOOK, 1, book_listed(dice, record, length, &shelf), 4);
+    insist(tally.place == not_allowed.place, "4 has its place in booking too");
+}
+
+/* A content that takes any bytes, but in some of an order's not the barred ones. */
+struct content {
+    enum shape shape;
+    size_t id;
+    int bars;
+};
+
+static const struct content contents[] = {
+    {ORDER_SHAPE, 1017, 0}, {GOODS_SHAPE, 1017, 0}, {REPORT_SHAPE, 1017, 0},
+    {ORDER_SHAPE, 8888, 0}, {GOODS_SHAPE, 1003, 0}, {ORDER_SHAPE, 1001, 1},
+    {ORDER_SHAPE, 1003, 1}, {ORDER_SHAPE, 1051, 1}, {ORDER_SHAPE, 9010, 1}
+};
+
+/* The byte somewhere in a content: read and written, or 4 in reading and 9 in writing. A star
+   ends the content, and no ID follows it: 6. A barred byte is 9 in both. */
+static void put_in_content(struct dice *dice, const struct content *content, uint8_t byte)
+{
+    struct sheet sheet;
+    uint8_t record[RECORD_ROOM], title[] = "Faust";
+    size_t at = below(dice, TITLE);
+    make_sheet(dice, &sheet, content->shape, 2);
+    size_t index = sheet.count, place = assemble(&sheet, record);
+    const struct wanted not_allowed = {4, place + at}, no_field = {6, place + at},
+                        broken = {9, place - HEAD}, unwritten = {9, index};
+    title[at] = byte;
+    add_with_group(dice, &sheet, content->id, title, TITLE);
+    size_t length = assemble(&sheet, record);
+    struct wanted wanted = !is_allowed(byte) ? not_allowed : byte == '*' ? no_field
+                         : content->bars && is_barred(byte) ? broken : done;
+    judge(byte, both_check(record, length, IN_FULL_TABLE), wanted, MARK_READ_IN_CONTENT,
+          BYTE_127_IS_4);
+    judge(byte, write_as(&sheet, record, length), wanted.answer == 0 ? done : unwritten,
+          MARK_WRITTEN_IN_CONTENT, BYTE_127_IS_9);
+    came_up(MARK_WHERE_OTHERS_ARE_BARRED, content->bars && is_typographic(byte));
+}
+
+/* Saves the book and loads it into rooms of the same size; gives the answer of loading. */
+static uint64_t load_again(struct dice *dice, struct shelf *shelf, struct shelf *loaded)
+{
+    uint8_t saved[IN_LONGEST];
+    size_t length = shelf->used[0] * IN_SAVED_LINE + shelf->used[1] * IN_SAVED_SLIP
+                  + IN_SAVED_END;
+    insist(both_save(shelf, saved, length) == 0, "a book is saved whatever its keys hold");
+    make_shelf(dice, loaded, shelf->lines_length / IN_LINE, shelf->slips_length / IN_SLIP);
+    uint64_t answer = both_load(saved, length, loaded);
+    insist(answer != 0 || is_same_book(shelf, loaded), "load of a save gives the same book");
+    return answer;
+}
+
+/* The byte somewhere in the name of a stored line or slip. The line is found whatever it is;
+   the save is loaded, or 22. A blank in front is 22 too. */
+static void put_in_book(struct dice *dice, int in_line, uint8_t byte)
+{
+    enum { ENTRIES = 2 };
+    static const struct wanted invalid = {22, 0};
+    static struct shelf shelf, loaded;
+    size_t at = below(dice, IN_NAME), entry = below(dice, ENTRIES);
+    make_shelf(dice, &shelf, ENTRIES, ENTRIES);
+    stock_unique(dice, &shelf, ENTRIES, ENTRIES);
+    uint8_t *line = shelf.lines + entry * IN_LINE, *slip = shelf.slips + entry * IN_SLIP;
+    *(in_line ? line + IN_REFERENCE + at : slip + IN_SLIP_NUMBER + at) = byte;
+    insist(ask_line(line, &shelf) == 0, "a line is found whatever its key holds");
+    int breaks = !is_allowed(byte) || (byte == ' ' && at == 0);
+    judge(byte, load_again(dice, &shelf, &loaded), breaks ? invalid : done,
+          in_line ? MARK_IN_SAVED_LINE : MARK_IN_SAVED_SLIP, BYTE_127_IS_22);
+}
+
+/* The keys of a line and of its slip, and where the mark stands in the name of each. */
+struct marked { uint8_t key[IN_KEY], slip[IN_SLIP_KEY], *in_reference, *in_number; };
+
+static uint64_t book_marked(struct dice *dice, struct shelf *shelf, enum shape shape,
+                            const struct marked *marked, size_t copies)
+{
+    return book_one(dice, shelf, shape, marked->key, copies,
+                    shape == GOODS_SHAPE ? marked->slip : NULL);
+}
+
+/* A line and a slip that the book has are found by their names. */
+static void find_again(struct dice *dice, struct shelf *shelf, const struct marked *marked)
+{
+    expect(LINE_ASKED_BY_MARK, 1, ask_line(marked->key, shelf), 0);
+    insist(tally.value == ORDERED, "the line that was ordered is found");
+    expect(ORDER_AGAIN_BY_MARK, 1, book_marked(dice, shelf, ORDER_SHAPE, marked, ORDERED), 14);
+    expect(SLIP_AGAIN_BY_MARK, 1, book_marked(dice, shelf, GOODS_SHAPE, marked, DELIVERED), 17);
+    expect(SLIP_DIFFERS_BY_MARK, 1,
+           book_marked(dice, shelf, GOODS_SHAPE, marked, DELIVERED + 1), 18);
+    expect(REPORT_BY_MARK, 1, book_marked(dice, shelf, REPORT_SHAPE, marked, 0), 0);
+}
+
+/* Another byte for the mark, also the plain sign that it is like, makes another name. */
+static void miss_by_others(struct dice *dice, struct shelf *shelf, struct marked *marked)
+{
+    uint8_t mark = *marked->in_reference;
+    const uint8_t others[] = {'-', '\'', '"', '.', '?', ' ', 26, 127, 129, 157, 160,
+                              (uint8_t)(mark ^ 1), (uint8_t)(mark ^ 0x80)};
+    for (size_t i = 0; i < sizeof others; i++) {
+        *marked->in_reference = others[i];
+        expect(OTHER_BYTE_FOR_MARK, 1, ask_line(marked->key, shelf), 16);
+    }
+    *marked->in_reference = mark;
+    *marked->in_number = '-';
+    expect(OTHER_SLIP_THAN_MARK, 1,
+           book_marked(dice, shelf, GOODS_SHAPE, marked, DELIVERED), 0);
+    *marked->in_reference = '-';
+    expect(OTHER_BYTE_FOR_MARK, 1, book_marked(dice, shelf, REPORT_SHAPE, marked, 0), 16);
+    expect(OTHER_BYTE_FOR_MARK, 1, book_marked(dice, shelf, ORDER_SHAPE, marked, ORDERED), 0);
+}
+
+/* An order with the mark in its reference, and a delivery for it with the mark in its slip
+   number: booked, found again, saved, loaded and found again. */
+static void book_mark(struct dice *dice, uint8_t mark)
+{
+    static struct shelf shelf, loaded;
+    struct marked marked;
+    unique_line_key(marked.key, 0);
+    unique_slip_key(marked.slip, 0);
+    marked.in_reference = marked.key + IN_REFERENCE + below(dice, IN_NAME);
+    marked.in_number = marked.slip + IN_SLIP_NUMBER + below(dice, IN_NAME);
+    *marked.in_reference = *marked.in_number = mark;
+    make_shelf(dice, &shelf, 2, 2);
+    expect(ORDER_WITH_MARK, 1, book_marked(dice, &shelf, ORDER_SHAPE, &marked, ORDERED), 0);
+    expect(DELIVERY_WITH_MARK, 1,
+           book_marked(dice, &shelf, GOODS_SHAPE, &marked, DELIVERED), 0);
+    find_again(dice, &shelf, &marked);
+    insist(load_again(dice, &shelf, &loaded) == 0, "a book with typographic marks is loaded");
+    find_again(dice, &loaded, &marked);
+    miss_by_others(dice, &loaded, &marked);
+}
+
+void compare_marks(struct dice *dice)
+{
+    for (size_t i = 0; i < BYTES; i++) {
+        uint8_t byte = (uint8_t)i;
+        for (size_t j = 0; j < sizeof names / sizeof names[0]; j++)
+            put_in_name(dice, &names[j], byte);
+        for (size_t j = 0; j < sizeof contents / sizeof contents[0]; j++)
+            put_in_content(dice, &contents[j], byte);
+        put_in_book(dice, 1, byte);
+        put_in_book(dice, 0, byte);
+        if (is_typographic(byte))
+            book_mark(dice, byte);
+    }
+}
