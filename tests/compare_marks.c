@@ -17,8 +17,9 @@ static void judge(uint8_t byte, uint64_t answer, struct wanted wanted, enum clas
                   enum class refused_127)
 {
     static const uint8_t between_marks[] = {127, 129, 141, 143, 144, 157};
-    expect(taken, is_typographic(byte), answer, wanted.answer);
-    insist(tally.place == wanted.place, "a byte is refused at its place");
+    insist(answer == wanted.answer && tally.place == wanted.place,
+           "every byte has its answer and its place");
+    came_up(taken, answer == 0 && is_typographic(byte));
     for (size_t i = 0; i < sizeof between_marks; i++)
         came_up((enum class)(refused_127 + i), answer != 0 && byte == between_marks[i]);
 }
@@ -112,6 +113,51 @@ static void put_in_content(struct dice *dice, const struct content *content, uin
     judge(byte, write_as(&sheet, record, length), wanted.answer == 0 ? done : unwritten,
           MARK_WRITTEN_IN_CONTENT, BYTE_127_IS_9);
     came_up(MARK_WHERE_OTHERS_ARE_BARRED, content->bars && is_typographic(byte));
+}
+
+/* Fixed fields whose rules take no typographic mark, by index and place. */
+static const struct { enum shape shape; size_t index, place; } ruled_fields[] = {
+    {ORDER_SHAPE, 1, 4}, {ORDER_SHAPE, 4, 26}, {ORDER_SHAPE, 5, 28}, {ORDER_SHAPE, 8, 59},
+    {ORDER_SHAPE, 9, 61}, {ORDER_SHAPE, 10, 65}, {GOODS_SHAPE, 7, 46}, {GOODS_SHAPE, 9, 60},
+    {GOODS_SHAPE, 12, 79}, {GOODS_SHAPE, 14, 96}, {GOODS_SHAPE, 16, 107},
+    {CLOSING_SHAPE, 6, 36}, {REPORT_SHAPE, 9, 63}, {REPORT_SHAPE, 10, 66},
+    {REPORT_SHAPE, 11, 67}, {REPORT_SHAPE, 12, 75}
+};
+
+/* A mark that breaks a field's rule: an allowed byte, so 5 in reading and not 4. */
+static void break_fields(struct dice *dice, uint8_t mark)
+{
+    struct sheet sheet;
+    uint8_t record[RECORD_ROOM];
+    for (size_t i = 0; i < sizeof ruled_fields / sizeof ruled_fields[0]; i++) {
+        make_sheet(dice, &sheet, ruled_fields[i].shape, 2);
+        sheet.fixed[ruled_fields[i].place] = mark;
+        size_t length = assemble(&sheet, record);
+        expect(MARK_IN_RULED_FIELD, 1, both_check(record, length, IN_FULL_TABLE), 5);
+        insist(tally.place == ruled_fields[i].place, "5 stands at the start of the field");
+        expect(MARK_IN_RULED_FIELD, 1, write_as(&sheet, record, length), 5);
+        insist(tally.place == ruled_fields[i].index, "5 in writing has the field's index");
+    }
+}
+
+/* The same in contents of digits, choices and days: 9. */
+static void break_contents(struct dice *dice, uint8_t mark)
+{
+    static const size_t ids[] = {1029, 1045, 1107, 1151, 1201, 1203, 9012};
+    struct sheet sheet;
+    uint8_t record[RECORD_ROOM], content[64];
+    for (size_t i = 0; i < sizeof ids / sizeof ids[0]; i++) {
+        make_sheet(dice, &sheet, (enum shape)below(dice, SHAPES), 2);
+        size_t index = sheet.count, star = assemble(&sheet, record) - HEAD;
+        size_t content_length = make_content(dice, ids[i], 0, content);
+        content[below(dice, content_length)] = mark;
+        add_with_group(dice, &sheet, ids[i], content, content_length);
+        size_t length = assemble(&sheet, record);
+        expect(MARK_IN_RULED_CONTENT, 1, both_check(record, length, IN_FULL_TABLE), 9);
+        insist(tally.place == star, "9 stands at the star of the field");
+        expect(MARK_IN_RULED_CONTENT, 1, write_as(&sheet, record, length), 9);
+        insist(tally.place == index, "9 in writing has the field's index");
+    }
 }
 
 /* Saves the book and loads it into rooms of the same size; gives the answer of loading. */
@@ -217,7 +263,10 @@ void compare_marks(struct dice *dice)
             put_in_content(dice, &contents[j], byte);
         put_in_book(dice, 1, byte);
         put_in_book(dice, 0, byte);
-        if (is_typographic(byte))
-            book_mark(dice, byte);
+        if (!is_typographic(byte))
+            continue;
+        break_fields(dice, byte);
+        break_contents(dice, byte);
+        book_mark(dice, byte);
     }
 }
