@@ -147,6 +147,7 @@ static const char *const words[CLASS_COUNT] = {
     [MARK_WHERE_OTHERS_ARE_BARRED] = "a typographic mark where an order bars other bytes",
     [MARK_IN_RULED_FIELD] = "5 for a typographic mark that breaks a field's rule",
     [MARK_IN_RULED_CONTENT] = "9 for a typographic mark that breaks a content's rule",
+    [OTHER_BYTE_FOR_BLANK] = "a typographic mark, or 160, for a blank",
     [MARK_IN_SAVED_LINE] = "a typographic mark in the key of a saved line",
     [MARK_IN_SAVED_SLIP] = "a typographic mark in the key of a saved slip",
     [LINE_ASKED_BY_MARK] = "a line found by a key with a typographic mark",

@@ -4,7 +4,7 @@
 
 #include <string.h>
 
-enum { BYTES = 256, HEAD = 5, TITLE = 5, ORDERED = 9, DELIVERED = 4 };
+enum { BYTES = 256, HEAD = 5, TITLE = 5, ORDERED = 9, DELIVERED = 4, HARD_BLANK = 160 };
 
 /* An answer and its place that the documents leave. */
 struct wanted { uint64_t answer, place; };
@@ -160,6 +160,33 @@ static void break_contents(struct dice *dice, uint8_t mark)
     }
 }
 
+/* Fields with blanks: place, text, and which of its blanks is changed. */
+static const struct { enum shape shape; size_t place; const char *text; size_t blank; }
+blank_fields[] = {
+    {ORDER_SHAPE, 4, "43210     VD", 9}, {ORDER_SHAPE, 46, "344275688X   IB", 12},
+    {ORDER_SHAPE, 46, "1234567      KN", 7}, {ORDER_SHAPE, 46, "123     45678RK", 3},
+    {ORDER_SHAPE, 36, "          ", 9}, {CLOSING_SHAPE, 36, "          ", 5},
+    {REPORT_SHAPE, 67, "        ", 0}
+};
+
+/* Only 32 is a blank: with the byte for one of its blanks each field is 5. */
+static void break_blanks(struct dice *dice, uint8_t byte)
+{
+    struct sheet sheet;
+    uint8_t record[RECORD_ROOM];
+    for (size_t i = 0; i < sizeof blank_fields / sizeof blank_fields[0]; i++) {
+        const char *text = blank_fields[i].text;
+        size_t place = blank_fields[i].place;
+        make_sheet(dice, &sheet, blank_fields[i].shape, 0);
+        memcpy(sheet.fixed + place, text, strlen(text));
+        size_t length = assemble(&sheet, record);
+        insist(both_check(record, length, IN_FULL_TABLE) == 0, "a field may hold its blanks");
+        record[place + blank_fields[i].blank] = byte;
+        expect(OTHER_BYTE_FOR_BLANK, 1, both_check(record, length, IN_FULL_TABLE), 5);
+        insist(tally.place == place, "5 stands at the field with the blanks");
+    }
+}
+
 /* Saves the book and loads it into rooms of the same size; gives the answer of loading. */
 static uint64_t load_again(struct dice *dice, struct shelf *shelf, struct shelf *loaded)
 {
@@ -263,6 +290,8 @@ void compare_marks(struct dice *dice)
             put_in_content(dice, &contents[j], byte);
         put_in_book(dice, 1, byte);
         put_in_book(dice, 0, byte);
+        if (is_typographic(byte) || byte == HARD_BLANK)
+            break_blanks(dice, byte);
         if (!is_typographic(byte))
             continue;
         break_fields(dice, byte);
