@@ -4,35 +4,50 @@
 
 #include <string.h>
 
-enum { BYTES = 256, HEAD = 5, TITLE = 5, ORDERED = 9, DELIVERED = 4, HARD_BLANK = 160 };
+enum {
+    BYTES = 256, HARD_BLANK = 160, HEAD = 5, TITLE = 5, LONGEST_CONTENT = 64, ORDERED = 9,
+    DELIVERED = 4
+};
 
 /* An answer and its place that the documents leave. */
 struct wanted { uint64_t answer, place; };
 
 static const struct wanted done = {0, 0};
 
-/* Insists on answer and place. Counts a typographic mark that is taken, and a byte between the
-   marks that is refused; the classes of these begin with that of 127. */
-static void judge(uint8_t byte, uint64_t answer, struct wanted wanted, enum class taken,
-                  enum class refused_127)
+/* Reads the sheet's record and writes it, with these answers; it is written as it is read. */
+static void read_and_write(const struct sheet *sheet, struct wanted read, struct wanted written)
+{
+    uint8_t record[RECORD_ROOM], out[IN_LONGEST];
+    size_t length = assemble(sheet, record);
+    uint64_t answer = both_check(record, length, IN_FULL_TABLE);
+    insist(answer == read.answer && tally.place == read.place,
+           "every byte has its answer and place in reading");
+    answer = both_write(sheet, sheet->fixed_length, 3 * sheet->count, sheet->contents_length,
+                        out, sizeof out);
+    insist(answer == written.answer && tally.place == written.place,
+           "every byte has its answer and place in writing");
+    insist(answer != 0 || (tally.value == length && memcmp(out, record, length) == 0),
+           "a record is written with the bytes that are read");
+}
+
+/* Counts a typographic mark that is taken, and a byte between the marks that is refused; the
+   classes of these begin with that of 127. */
+static void count_byte(uint8_t byte, uint64_t answer, enum class taken, enum class refused_127)
 {
     static const uint8_t between_marks[] = {127, 129, 141, 143, 144, 157};
-    insist(answer == wanted.answer && tally.place == wanted.place,
-           "every byte has its answer and its place");
     came_up(taken, answer == 0 && is_typographic(byte));
     for (size_t i = 0; i < sizeof between_marks; i++)
         came_up((enum class)(refused_127 + i), answer != 0 && byte == between_marks[i]);
 }
 
-/* Writes the sheet, as it was assembled where it is not refused. */
-static uint64_t write_as(const struct sheet *sheet, const uint8_t *record, size_t length)
+/* A record with a byte that is not allowed, brought to be booked. */
+static void refuse_to_book(struct dice *dice, const struct sheet *sheet, size_t place)
 {
-    uint8_t out[IN_LONGEST];
-    uint64_t answer = both_write(sheet, sheet->fixed_length, 3 * sheet->count,
-                                 sheet->contents_length, out, sizeof out);
-    insist(answer != 0 || (tally.value == length && memcmp(out, record, length) == 0),
-           "a record is written with the bytes that are read");
-    return answer;
+    static struct shelf shelf;
+    uint8_t record[RECORD_ROOM];
+    make_shelf(dice, &shelf, 1, 1);
+    expect(NOT_ALLOWED_TO_BOOK, 1, book_listed(dice, record, assemble(sheet, record), &shelf), 4);
+    insist(tally.place == place, "4 has its place in booking too");
 }
 
 /* A reference or a slip number in the fixed part of a record: index and place of the field,
@@ -55,28 +70,23 @@ static const struct name names[] = {
    front is 5 in both, and so is a barred byte of an order. */
 static void put_in_name(struct dice *dice, const struct name *name, uint8_t byte)
 {
-    static struct shelf shelf;
     struct sheet sheet;
-    uint8_t record[RECORD_ROOM];
     size_t at = below(dice, IN_NAME);
     const struct wanted not_allowed = {4, name->place + at}, broken = {5, name->place},
                         unwritten = {5, name->index};
     int bars = name->shape == ORDER_SHAPE;
     int breaks = (byte == ' ' && at == 0) || (bars && is_barred(byte));
+    struct wanted read = !is_allowed(byte) ? not_allowed : breaks ? broken : done;
+    struct wanted written = read.answer == 0 ? done : unwritten;
     make_sheet(dice, &sheet, name->shape, 2);
     memcpy(sheet.fixed + name->place, "Faust II/7", IN_NAME);
     sheet.fixed[name->place + at] = byte;
-    size_t length = assemble(&sheet, record);
-    struct wanted wanted = !is_allowed(byte) ? not_allowed : breaks ? broken : done;
-    judge(byte, both_check(record, length, IN_FULL_TABLE), wanted, name->read, BYTE_127_IS_4);
-    judge(byte, write_as(&sheet, record, length), wanted.answer == 0 ? done : unwritten,
-          name->written, BYTE_127_IS_5);
+    read_and_write(&sheet, read, written);
+    count_byte(byte, read.answer, name->read, BYTE_127_IS_4);
+    count_byte(byte, written.answer, name->written, BYTE_127_IS_5);
     came_up(MARK_WHERE_OTHERS_ARE_BARRED, bars && is_typographic(byte));
-    if (is_allowed(byte))
-        return;
-    make_shelf(dice, &shelf, 1, 1);
-    expect(NOT_ALLOWED_TO_BOOK, 1, book_listed(dice, record, length, &shelf), 4);
-    insist(tally.place == not_allowed.place, "4 has its place in booking too");
+    if (!is_allowed(byte))
+        refuse_to_book(dice, &sheet, not_allowed.place);
 }
 
 /* A content that takes any bytes, but in some of an order's not the barred ones. */
@@ -103,15 +113,14 @@ static void put_in_content(struct dice *dice, const struct content *content, uin
     size_t index = sheet.count, place = assemble(&sheet, record);
     const struct wanted not_allowed = {4, place + at}, no_field = {6, place + at},
                         broken = {9, place - HEAD}, unwritten = {9, index};
+    struct wanted read = !is_allowed(byte) ? not_allowed : byte == '*' ? no_field
+                       : content->bars && is_barred(byte) ? broken : done;
+    struct wanted written = read.answer == 0 ? done : unwritten;
     title[at] = byte;
     add_with_group(dice, &sheet, content->id, title, TITLE);
-    size_t length = assemble(&sheet, record);
-    struct wanted wanted = !is_allowed(byte) ? not_allowed : byte == '*' ? no_field
-                         : content->bars && is_barred(byte) ? broken : done;
-    judge(byte, both_check(record, length, IN_FULL_TABLE), wanted, MARK_READ_IN_CONTENT,
-          BYTE_127_IS_4);
-    judge(byte, write_as(&sheet, record, length), wanted.answer == 0 ? done : unwritten,
-          MARK_WRITTEN_IN_CONTENT, BYTE_127_IS_9);
+    read_and_write(&sheet, read, written);
+    count_byte(byte, read.answer, MARK_READ_IN_CONTENT, BYTE_127_IS_4);
+    count_byte(byte, written.answer, MARK_WRITTEN_IN_CONTENT, BYTE_127_IS_9);
     came_up(MARK_WHERE_OTHERS_ARE_BARRED, content->bars && is_typographic(byte));
 }
 
@@ -128,15 +137,13 @@ static const struct { enum shape shape; size_t index, place; } ruled_fields[] = 
 static void break_fields(struct dice *dice, uint8_t mark)
 {
     struct sheet sheet;
-    uint8_t record[RECORD_ROOM];
     for (size_t i = 0; i < sizeof ruled_fields / sizeof ruled_fields[0]; i++) {
+        const struct wanted read = {5, ruled_fields[i].place},
+                            written = {5, ruled_fields[i].index};
         make_sheet(dice, &sheet, ruled_fields[i].shape, 2);
         sheet.fixed[ruled_fields[i].place] = mark;
-        size_t length = assemble(&sheet, record);
-        expect(MARK_IN_RULED_FIELD, 1, both_check(record, length, IN_FULL_TABLE), 5);
-        insist(tally.place == ruled_fields[i].place, "5 stands at the start of the field");
-        expect(MARK_IN_RULED_FIELD, 1, write_as(&sheet, record, length), 5);
-        insist(tally.place == ruled_fields[i].index, "5 in writing has the field's index");
+        read_and_write(&sheet, read, written);
+        came_up(MARK_IN_RULED_FIELD, 1);
     }
 }
 
@@ -145,18 +152,16 @@ static void break_contents(struct dice *dice, uint8_t mark)
 {
     static const size_t ids[] = {1029, 1045, 1107, 1151, 1201, 1203, 9012};
     struct sheet sheet;
-    uint8_t record[RECORD_ROOM], content[64];
+    uint8_t record[RECORD_ROOM], content[LONGEST_CONTENT];
     for (size_t i = 0; i < sizeof ids / sizeof ids[0]; i++) {
         make_sheet(dice, &sheet, (enum shape)below(dice, SHAPES), 2);
-        size_t index = sheet.count, star = assemble(&sheet, record) - HEAD;
-        size_t content_length = make_content(dice, ids[i], 0, content);
-        content[below(dice, content_length)] = mark;
-        add_with_group(dice, &sheet, ids[i], content, content_length);
-        size_t length = assemble(&sheet, record);
-        expect(MARK_IN_RULED_CONTENT, 1, both_check(record, length, IN_FULL_TABLE), 9);
-        insist(tally.place == star, "9 stands at the star of the field");
-        expect(MARK_IN_RULED_CONTENT, 1, write_as(&sheet, record, length), 9);
-        insist(tally.place == index, "9 in writing has the field's index");
+        const struct wanted read = {9, assemble(&sheet, record) - HEAD},
+                            written = {9, sheet.count};
+        size_t length = make_content(dice, ids[i], 0, content);
+        content[below(dice, length)] = mark;
+        add_with_group(dice, &sheet, ids[i], content, length);
+        read_and_write(&sheet, read, written);
+        came_up(MARK_IN_RULED_CONTENT, 1);
     }
 }
 
@@ -205,17 +210,17 @@ static uint64_t load_again(struct dice *dice, struct shelf *shelf, struct shelf 
 static void put_in_book(struct dice *dice, int in_line, uint8_t byte)
 {
     enum { ENTRIES = 2 };
-    static const struct wanted invalid = {22, 0};
     static struct shelf shelf, loaded;
     size_t at = below(dice, IN_NAME), entry = below(dice, ENTRIES);
+    uint64_t wanted = !is_allowed(byte) || (byte == ' ' && at == 0) ? 22 : 0;
     make_shelf(dice, &shelf, ENTRIES, ENTRIES);
     stock_unique(dice, &shelf, ENTRIES, ENTRIES);
     uint8_t *line = shelf.lines + entry * IN_LINE, *slip = shelf.slips + entry * IN_SLIP;
     *(in_line ? line + IN_REFERENCE + at : slip + IN_SLIP_NUMBER + at) = byte;
     insist(ask_line(line, &shelf) == 0, "a line is found whatever its key holds");
-    int breaks = !is_allowed(byte) || (byte == ' ' && at == 0);
-    judge(byte, load_again(dice, &shelf, &loaded), breaks ? invalid : done,
-          in_line ? MARK_IN_SAVED_LINE : MARK_IN_SAVED_SLIP, BYTE_127_IS_22);
+    insist(load_again(dice, &shelf, &loaded) == wanted,
+           "a save is loaded just where its names hold allowed bytes");
+    count_byte(byte, wanted, in_line ? MARK_IN_SAVED_LINE : MARK_IN_SAVED_SLIP, BYTE_127_IS_22);
 }
 
 /* The keys of a line and of its slip, and where the mark stands in the name of each. */
