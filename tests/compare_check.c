@@ -210,11 +210,13 @@ static void check_days(struct dice *dice)
     }
 }
 
-/* Articles of all qualifiers, right and with a character or two changed. */
+/* Articles of all qualifiers, right and with a character or two changed, now and then before
+   another qualifier, or before one that has a byte of a right one. */
 static void check_articles(struct dice *dice)
 {
     static const char few[] = "0123456789Xx A";
-    static const char *const qualifiers[] = {"EN", "IB", "KN", "UM", "RK", "  ", "XX", "EX"};
+    static const char *const qualifiers[] = {"EN", "IB", "KN", "UM", "RK", "  ", "XX", "EX",
+                                             "IX", "KX", "UX", "RX", "XN", "XB", "XM", "XK"};
     struct sheet sheet;
     for (size_t i = 0; i < 1500; i++) {
         enum shape shape = (enum shape)below(dice, SHAPES);
@@ -227,7 +229,8 @@ static void check_articles(struct dice *dice)
         for (size_t changes = below(dice, 3); changes > 0; changes--)
             article[below(dice, 13)] = (uint8_t)few[below(dice, sizeof few - 1)];
         if (chance(dice, 8))
-            memcpy(article + 13, qualifiers[below(dice, 8)], 2);
+            memcpy(article + 13, qualifiers[below(dice, sizeof qualifiers / sizeof qualifiers[0])],
+                   2);
         check_sheet(&sheet);
     }
 }
