@@ -1,19 +1,16 @@
 -- Cases at the edges of each rule, each answer number and each place, with what reading must say of them.
-use Prim.Native.Nat.{ℕ, zero, suc, _-_}
+use Prim.Native.Nat.{ℕ, zero, suc}
 use Prim.Native.String.{String}
-use mathlib.Core.List.{List, [], _∷_, _++_}
-use lib.ListN.{take, drop, length, replicate}
+use mathlib.Core.List.{List, [], _∷_, _++_, map}
+use lib.ListN.{take, replicate, set}
 use Rattle.cells.specs.Bytes.{bytes}
+use Rattle.rules.specs.Cases.{refusedBytes, takenBytes}
 use Rattle.record.specs.Samples.{X, Y, Z, put, with, withBytes, Row, row, reads}
 
 -- n times the same bytes
 abbrev times : ℕ → List ℕ → List ℕ
 times zero s = []
 times (suc n) s = s ++ times n s
-
--- a record with a byte at a place
-abbrev putByte : ℕ → ℕ → List ℕ → List ℕ
-putByte at b s = take at s ++ (b ∷ drop (suc at) s)
 
 -- a text of n bytes A, of n digits
 abbrev letters : ℕ → List ℕ
@@ -48,15 +45,25 @@ recordEdges =
     ∷ row reads Z 0 0
     ∷ row reads (take 112 C) 3 112
     ∷ row reads C 0 0
-    ∷ row reads (putByte 36 31 X) 4 36
-    ∷ row reads (putByte 36 126 X) 0 0
-    ∷ row reads (putByte 36 127 X) 4 36
-    ∷ row reads (putByte 36 159 X) 4 36
-    ∷ row reads (putByte 36 160 X) 0 0
-    ∷ row reads (putByte 36 255 X) 0 0
+    ∷ row reads (set X 36 31) 4 36
+    ∷ row reads (set X 36 126) 0 0
+    ∷ row reads (set X 36 160) 0 0
+    ∷ row reads (set X 36 255) 0 0
     ∷ row reads (X ++ (13 ∷ 10 ∷ [])) 4 72  -- a line end left on
-    ∷ row reads (putByte 70 9 (put 28 "20230229" X)) 4 70  -- 4 looks at the whole record before 5
+    ∷ row reads (set (put 28 "20230229" X) 70 9) 4 70  -- 4 looks at the whole record before 5
     ∷ []
+
+-- an order with a byte behind its short title
+abbrev titleWith : ℕ → List ℕ
+titleWith b = withBytes (bytes "*1017Title" ++ (b ∷ bytes "*1018KL")) X
+
+-- a record with each byte at the ends of what is allowed: 4 at its place, or it reads well
+abbrev atEnds : ℕ → (ℕ → List ℕ) → List Row
+atEnds place s = map (λ b. row reads (s b) 4 place) refusedBytes ++ map (λ b. row reads (s b) 0 0) takenBytes
+
+-- in a reference, in an optional content and in a slip number
+unfoldable pub byteEdges : List Row
+byteEdges = atEnds 37 (set X 37) ++ (atEnds 77 titleWith ++ atEnds 37 (set Y 37))
 
 -- 5 in what all records have, and in an order
 unfoldable pub orderEdges : List Row

@@ -4,15 +4,16 @@ use mathlib.Core.Bool.{Bool, true}
 use mathlib.Core.List.{List, [], _∷_, _++_}
 use Prim.Native.Nat.{ℕ, zero, suc, _+_, _*_, _%_, _/_}
 use native.Mathlib.Omega.{arith}
-use borrow.Author.Tests.{lt-ltb, leb-true}
-use lib.Dec.{ltb, leb}
+use borrow.Author.Tests.{lt-ltb}
+use lib.Dec.{ltb}
 use lib.ListN.{set}
 use lib.Seq.{sets}
-use Rattle.cells.specs.Bytes.{all, within}
+use Rattle.cells.specs.Bytes.{all}
 use Rattle.cells.specs.Little.{leBytes}
-use Rattle.cells.proofs.Bools.{split, and-left, and-right}
+use Rattle.cells.proofs.Bools.{and-left, and-right}
 use Rattle.cells.proofs.Lists.{all-weaker, all-append}
 use Rattle.rules.specs.Class.{belongs}
+use Rattle.rules.proofs.Classes.{allowed-byte}
 use Rattle.rules.specs.declared.class.Class.the-variants.{Allowed}
 use Rattle.record.specs.declared.layout.Kind.{Kind}
 use Rattle.record.specs.declared.layout.Kind.the-variants.{Order, Goods, Closing, Report}
@@ -45,15 +46,7 @@ module _ (p : ℕ → Bool) where
   all-sets s i [] e f = e
   all-sets s i (x ∷ xs) e f = all-sets (set s i x) (suc i) xs (all-set s i x e (and-left (p x) (all p xs) f)) (and-right (p x) (all p xs) f)
 
--- an allowed byte is a byte
-allowed-byte : (x : ℕ) → belongs Allowed x ≡ true → ltb x 256 ≡ true
-unfolding belongs
-allowed-byte x e =
-    split (within 32 126 x)
-    (λ h. let l = leb-true x 126 (and-right (leb 32 x) (leb x 126) h) in lt-ltb x 256 (omega arith))
-    (λ h. let l = leb-true x 255 (and-right (leb 160 x) (leb x 255) (rw h at e)) in lt-ltb x 256 (omega arith))
-
--- a number's bytes are
+-- a number's bytes are bytes
 le-bytes : (w n : ℕ) → Bytes (leBytes w n)
 unfolding leBytes all
 le-bytes zero n = refl

@@ -23,7 +23,7 @@ use Rattle.record.specs.declared.layout.Kinded.the-variants.{Known}
 use Rattle.writing.specs.Digits.{digitsOf}
 use Rattle.writing.specs.Write.{fieldText, optionalText, recordText}
 use Rattle.roundtrip.specs.Record.{Parts, fixedPart, textOf, fixedKept, optionalKept, MakesRecord}
-use Rattle.roundtrip.specs.Cases.{field, orderFields, xFields, ordering, yParts, zParts, closingParts, titled, shortFields, letters, fixedOnly}
+use Rattle.roundtrip.specs.Cases.{field, orderFields, xFields, ordering, yParts, zParts, closingParts, titled, marked, shortFields, letters, fixedOnly}
 
 -- the parts make these bytes as a record
 pub record MakesText (r : Parts) (s : List ℕ) : Type 0 where
@@ -44,6 +44,8 @@ pub record Computed : Type 0 where
   -- 64 fields and 1,024 bytes still make one
   pub all-fields : MakesRecord (ordering (shortFields 64))
   pub all-bytes : MakesRecord (ordering (letters 947))
+  -- so does a title with quotes and a dash
+  pub marks : MakesRecord (ordering marked)
   -- the kind is the one that the fixed part names
   pub other-kind : None (record { kind = Goods; fixed = xFields; optional = [] })
   -- the fixed part has no wrong check digit, no field too many and none too few
@@ -56,10 +58,11 @@ pub record Computed : Type 0 where
   pub empty : None (ordering (field 1003 "" ∷ []))
   pub group : None (ordering (field 1017 "Title" ∷ []))
   pub split-group : None (ordering (field 1017 "Title" ∷ field 8888 "" ∷ field 1018 "KL" ∷ []))
-  -- 65 fields are too many, 1,025 bytes too long, and a byte 127 is not allowed
+  -- 65 fields are too many, 1,025 bytes too long, and bytes 127 and 129 are not allowed
   pub many : None (ordering (shortFields 65))
   pub long : None (ordering (letters 948))
   pub byte : None (fixedOnly (orderFields (bytes "A-17" ++ (127 ∷ bytes "     ")) "9783442756841"))
+  pub unassigned : None (fixedOnly (orderFields (bytes "A-17" ++ (129 ∷ bytes "     ")) "9783442756841"))
 
 -- by its clauses, each of which computes
 makes : (r : Parts) → kindOf (fixedPart r) ≡ Known (r .kind) → fixedKept (layout (r .kind)) (r .fixed) ≡ true
@@ -84,6 +87,7 @@ computed = record {
   title = record { makes = makes (ordering titled) refl refl refl refl refl refl; text = refl };
   all-fields = makes (ordering (shortFields 64)) refl refl refl refl refl refl;
   all-bytes = makes (ordering (letters 947)) refl refl refl refl refl refl;
+  marks = makes (ordering marked) refl refl refl refl refl refl;
   other-kind = λ m. let e = m .named in let z : _≡_ {A = ℕ} 0 1 = cc in omega arith;
   check-digit = λ m. false≢true (m .fixed-kept);
   field-more = λ m. false≢true (m .fixed-kept);
@@ -96,4 +100,5 @@ computed = record {
   many = λ m. omega (arith, m .few);
   long = λ m. omega (arith, m .short);
   byte = λ m. false≢true (m .allowed);
+  unassigned = λ m. false≢true (m .allowed);
 }

@@ -4,15 +4,14 @@ use mathlib.Core.Bool.{Bool, true, _&&_}
 use mathlib.Core.List.{List, [], _∷_, _++_, append-assoc}
 use Prim.Native.Nat.{ℕ, zero, suc, _+_, _^_, _≤_, _<_}
 use native.Mathlib.Omega.{arith}
-use borrow.Author.Tests.{leb-true, le-leb, ne-eqb}
-use lib.Dec.{leb}
+use borrow.Author.Tests.{ne-eqb}
 use lib.ListN.{length, drop, length-append}
 use lib.Seq.{slice, take-at, drop-at, drop-drop, take-append-seam, drop-append-seam}
 use Rattle.cells.specs.Bytes.{bytes, all, run}
-use Rattle.cells.proofs.Bools.{and-left, and-right}
 use Rattle.cells.proofs.Lists.{all-weaker, all-append}
 use Rattle.rules.specs.Class.{belongs, allOf, ofClass}
 use Rattle.rules.specs.Number.{numberFrom}
+use Rattle.rules.proofs.Classes.{digit-allowed}
 use Rattle.rules.specs.declared.class.Class.the-variants.{Allowed, Digit}
 use Rattle.record.specs.Fields.{lastId, headWidth, headOf, idIn, idOf, notStar, contentWidth, contentOf, fieldWidth, afterField, atField, onHead, walk, Optional, fieldsOf}
 use Rattle.record.specs.declared.fields.Head.the-variants.{Id}
@@ -33,14 +32,6 @@ pub record Writable (f : Optional) : Type 0 where
 abbrev pub AllWritable : List Optional → Type 0
 AllWritable [] = Unit
 AllWritable (f ∷ fs) = Writable f × AllWritable fs
-
--- a digit is allowed
-digit-allowed : (b : ℕ) → belongs Digit b ≡ true → belongs Allowed b ≡ true
-unfolding belongs
-digit-allowed b e =
-    let l = leb-true 48 b (and-left (leb 48 b) (leb b 57) e) in
-    let u = leb-true b 57 (and-right (leb 48 b) (leb b 57) e) in
-    rw (le-leb 32 b (omega arith), le-leb b 126 (omega arith))
 
 -- a field in front of what follows it
 module _ (f : Optional) (rest : List ℕ) where

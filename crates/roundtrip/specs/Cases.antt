@@ -1,7 +1,7 @@
 -- Parts for the computed cases: those of document 01's samples, which make records, and others with one thing broken, which make none.
 use Prim.Native.Nat.{ℕ}
 use Prim.Native.String.{String}
-use mathlib.Core.List.{List, [], _∷_}
+use mathlib.Core.List.{List, [], _∷_, _++_}
 use lib.ListN.{replicate}
 use Rattle.cells.specs.Bytes.{bytes}
 use Rattle.record.specs.Fields.{Optional}
@@ -114,6 +114,10 @@ closingParts = record {
 -- a title with its qualifier: a group
 abbrev pub titled : List Optional
 titled = field 1017 "Title" ∷ field 1018 "KL" ∷ []
+
+-- a title in quotes, and what it is behind a dash
+abbrev pub marked : List Optional
+marked = record { id = 1017; content = 132 ∷ (bytes "Momo" ++ (147 ∷ (bytes " " ++ (150 ∷ bytes " Roman")))) } ∷ field 1018 "KL" ∷ []
 
 -- so many short fields
 abbrev pub shortFields : ℕ → List Optional

@@ -8,9 +8,21 @@ use Rattle.cells.specs.Bytes.{within, all, run}
 use Rattle.rules.specs.declared.class.Class.{Class}
 use Rattle.rules.specs.declared.class.Class.the-variants.{Any, Allowed, Digit, Capital, Account, Blank, Zero, Unbarred, DigitOrX}
 
+-- printable ASCII, and Latin-1 from 160 on
+abbrev pub plain : ℕ → Bool
+plain b = within 32 126 b || within 160 255 b
+
+-- bytes that stand for nothing in Windows-1252
+abbrev pub unassigned : ℕ → Bool
+unassigned b = eqb b 129 || (eqb b 141 || (eqb b 143 || (eqb b 144 || eqb b 157)))
+
+-- dashes, quotes and the other signs that Windows-1252 has from 128 to 159
+abbrev pub typographic : ℕ → Bool
+typographic b = within 128 159 b && not (unassigned b)
+
 -- bytes that a record may hold (RULES 1.1)
 abbrev pub allowed : ℕ → Bool
-allowed b = within 32 126 b || within 160 255 b
+allowed b = plain b || typographic b
 
 -- the one byte that is blank
 abbrev pub blank : ℕ → Bool

@@ -4,3 +4,4 @@ pub mod Day
 pub mod Article
 pub mod Rule
 pub mod Values
+pub mod Cases

@@ -1,7 +1,7 @@
 // Classes of bytes, and fields made of one class.
 ghost use mathlib.Core.Path.{_≡_};
-ghost use Rattle.cells.specs.Bytes.{within, run};
-ghost use Rattle.rules.specs.Class.{belongs, allOf, ofClass, padded, named};
+ghost use Rattle.cells.specs.Bytes.{within, all, run};
+ghost use Rattle.rules.specs.Class.{plain, unassigned, allowed, belongs, allOf, ofClass, padded, named};
 ghost use Rattle.rules.specs.declared.class.Class.the-variants.{Allowed};
 use cells::part;
 
@@ -27,6 +27,16 @@ pub const LETTER_X: u8 = 88;
 
 pub const LETTER_Z: u8 = 90;
 
+const LAST_ASCII: u8 = 126;
+
+const FIRST_TYPOGRAPHIC: u8 = 128;
+
+const LAST_TYPOGRAPHIC: u8 = 159;
+
+const FIRST_LATIN: u8 = 160;
+
+const LAST_LATIN: u8 = 255;
+
 pub enum Class {
     Any,
     Allowed,
@@ -47,13 +57,38 @@ fn between(least: u8, most: u8, b: u8) -> bool
     (least <= b) & (b <= most)
 }
 
+// Whether a byte is printable ASCII, or Latin-1 from 160 on.
+fn is_plain(b: u8) -> bool
+    ensures { λ r. ⌜ r ≡ plain b ⌝ }
+{
+    between(BLANK, LAST_ASCII, b) | between(FIRST_LATIN, LAST_LATIN, b)
+}
+
+// Whether a byte stands for nothing in Windows-1252.
+fn is_unassigned(b: u8) -> bool
+    ensures { λ r. ⌜ r ≡ unassigned b ⌝ }
+{
+    (b == 129) | ((b == 141) | ((b == 143) | ((b == 144) | (b == 157))))
+}
+
+// Whether a record may hold a byte; ASCII is told first, since most bytes are.
+fn is_allowed(b: u8) -> bool
+    ensures { λ r. ⌜ r ≡ allowed b ⌝ }
+{
+    if between(BLANK, LAST_ASCII, b) {
+        return true;
+    }
+    between(FIRST_LATIN, LAST_LATIN, b)
+        | (between(FIRST_TYPOGRAPHIC, LAST_TYPOGRAPHIC, b) & !is_unassigned(b))
+}
+
 // Whether a byte is of a class.
 pub fn belongs_to(c: Class, b: u8) -> bool
     ensures { λ r. ⌜ r ≡ belongs c b ⌝ }
 {
     match c {
         Class::Any => true,
-        Class::Allowed => between(32, 126, b) | between(160, 255, b),
+        Class::Allowed => is_allowed(b),
         Class::Digit => between(ZERO, NINE, b),
         Class::Capital => between(LETTER_A, LETTER_Z, b),
         Class::Account => between(ZERO, NINE, b) | between(LETTER_A, LETTER_Z, b),
@@ -80,24 +115,24 @@ pub fn run_of(c: Class, s: &[u8]) -> usize
     i
 }
 
-// Whether each byte is allowed; no byte ends the loop, so that many are judged at once.
-fn are_allowed(s: &[u8]) -> bool
-    ensures { λ r. ⌜ r ≡ allOf Allowed (now (s .entry)) ⌝ }
+// Whether each byte is plain; no byte ends the loop, so that many are judged at once.
+fn are_plain(s: &[u8]) -> bool
+    ensures { λ r. ⌜ r ≡ all plain (now (s .entry)) ⌝ }
 {
     let mut kept = true;
     let mut i: usize = 0;
     while i < s.len() {
-        kept = kept & belongs_to(Class::Allowed, s[i]);
+        kept = kept & is_plain(s[i]);
         i += 1;
     }
     kept
 }
 
-// How many bytes at the front are allowed; most often all.
+// How many bytes at the front are allowed; most often all, and most often plain.
 pub fn allowed_run(s: &[u8]) -> usize
     ensures { λ r. ⌜ r ≡ run (belongs Allowed) (now (s .entry)) ⌝ }
 {
-    if are_allowed(s) {
+    if are_plain(s) {
         return s.len();
     }
     run_of(Class::Allowed, s)

@@ -26,10 +26,11 @@ use Rattle.book.specs.Cases.{roomy}
 use Rattle.save.specs.Entries.{goodsFields, keyKept, lineKept, partiesAgree, lineIndex, slipCopies, slipKept, isFirst, copiesOn, arrivedOn, linesKept, slipsKept, sumsKept, entriesKept}
 use Rattle.save.specs.Saved.{refusedNumber as saveNumber, joinedFrom, lineBodyAt, slipBodyAt, lineEntries, slipEntries, endEntry, savedForm, savedWidth, notSaved, save, statedLines, statedSlips, lineIn, slipIn, allOfKind, inForm, isSave}
 use Rattle.save.specs.Load.{loadedLine, lentLoaded, notLoaded, load}
-use Rattle.save.specs.Cases.{loads, firstWrong, day, overused, oddRoom, daySaved, manySlips}
+use Rattle.save.specs.Cases.{loads, byteLoads, firstWrong, day, overused, oddRoom, daySaved, manySlips}
 
 pub record Computed : Type 0 where
   pub loading : firstWrong 1 loads ≡ 0
+  pub ends : firstWrong 1 byteLoads ≡ 0
   pub saving : save day (replicate 120 7) .out ≡ daySaved ++ replicate 11 7
   pub saying : save day (replicate 109 7) .said ≡ record { answer = 0; place = 0; length = 109 }
   pub small : save day (replicate 108 7) .said ≡ record { answer = 23; place = 0; length = 0 }
@@ -43,5 +44,5 @@ pub record Computed : Type 0 where
   pub over : sumsKept 1 1001 (manySlips 1000) ≡ false
 
 pub computed : Computed
-unfolding all any run same among leAt leBytes belongs allOf ofClass padded named numberFrom leap monthDays realDay dayOf isDay checkValue weighted gs1 isbn seriesVolume article texts dayCount expected keeps layout total fixedWidth startOf kindOf firstBroken contents isIn ruleIn contentRule guardedIds guarded contentKept groups firstOf nextIn previousIn groupWith nextMember previousMember isWanted groupKept refusalNumber refusalPlace checkedOf _then_ headOf idIn idOf contentWidth contentOf fieldWidth afterField onHead atField walk judge fieldBytes bytesJudged fixedJudged afterWalk optionalJudged kindJudged judged markByte withMark withArrivals openOf letGoOf filledOf figuresOf lineAt lineBytes putLine addLine keyAt keyIs schoolAt schoolIs openAt lineSound slipKeyAt slipIs slipLineAt slipCopiesAt addSlip slipSound usedLines usedSlips lineRoom slipRoom roomSound firstFrom allFrom sumFrom sound rosterSound entries accountAt accountIs ceilingAt findAccount standingAt standing findLine findSlip openCopies refusedNumber refusedPlace joined keyFields lineKey schoolIn slipKey copiesIn nothingToBook noCopies noReference markIn newLineJudged orderJudged slipJudged arrivalJudged goodsJudged deliveryJudged reportJudged bookJudged onRoster fitJudged newLine lineAfter lentAfter refusedAs doneAs enteredAs settled bookAs bookKind bookRead book goodsFields keyKept lineKept partiesAgree lineIndex slipCopies slipKept isFirst copiesOn arrivedOn linesKept slipsKept sumsKept entriesKept saveNumber joinedFrom lineBodyAt slipBodyAt lineEntries slipEntries endEntry savedForm savedWidth notSaved save statedLines statedSlips lineIn slipIn allOfKind inForm isSave roomsSound loadedLine lentLoaded notLoaded load loads firstWrong daySaved
-computed = record { loading = refl; saving = refl; saying = refl; small = refl; unsound = refl; back = refl; odd-room = refl; any-counts = refl; most = refl; over = refl }
+unfolding all any run same among leAt leBytes belongs allOf ofClass padded named numberFrom leap monthDays realDay dayOf isDay checkValue weighted gs1 isbn seriesVolume article texts dayCount expected keeps layout total fixedWidth startOf kindOf firstBroken contents isIn ruleIn contentRule guardedIds guarded contentKept groups firstOf nextIn previousIn groupWith nextMember previousMember isWanted groupKept refusalNumber refusalPlace checkedOf _then_ headOf idIn idOf contentWidth contentOf fieldWidth afterField onHead atField walk judge fieldBytes bytesJudged fixedJudged afterWalk optionalJudged kindJudged judged markByte withMark withArrivals openOf letGoOf filledOf figuresOf lineAt lineBytes putLine addLine keyAt keyIs schoolAt schoolIs openAt lineSound slipKeyAt slipIs slipLineAt slipCopiesAt addSlip slipSound usedLines usedSlips lineRoom slipRoom roomSound firstFrom allFrom sumFrom sound rosterSound entries accountAt accountIs ceilingAt findAccount standingAt standing findLine findSlip openCopies refusedNumber refusedPlace joined keyFields lineKey schoolIn slipKey copiesIn nothingToBook noCopies noReference markIn newLineJudged orderJudged slipJudged arrivalJudged goodsJudged deliveryJudged reportJudged bookJudged onRoster fitJudged newLine lineAfter lentAfter refusedAs doneAs enteredAs settled bookAs bookKind bookRead book goodsFields keyKept lineKept partiesAgree lineIndex slipCopies slipKept isFirst copiesOn arrivedOn linesKept slipsKept sumsKept entriesKept saveNumber joinedFrom lineBodyAt slipBodyAt lineEntries slipEntries endEntry savedForm savedWidth notSaved save statedLines statedSlips lineIn slipIn allOfKind inForm isSave roomsSound loadedLine lentLoaded notLoaded load loads byteLoads firstWrong daySaved
+computed = record { loading = refl; ends = refl; saving = refl; saying = refl; small = refl; unsound = refl; back = refl; odd-room = refl; any-counts = refl; most = refl; over = refl }

@@ -1,10 +1,12 @@
 -- The samples and edges of reading hold of the definitions: each by computation.
 use Prim.Native.Nat.{ℕ}
 use mathlib.Core.Path.{_≡_, refl}
+use mathlib.Core.Bool.{true, false}
 use mathlib.Core.List.{List, [], _∷_, _++_}
-use lib.ListN.{replicate, take}
+use lib.ListN.{length, replicate, take}
 use Rattle.cells.specs.Bytes.{bytes, all, any, run, same, among}
 use Rattle.rules.specs.Class.{belongs, allOf, ofClass, padded, named}
+use Rattle.rules.specs.Cases.{allowedBytes, otherBytes}
 use Rattle.rules.specs.Number.{numberFrom}
 use Rattle.rules.specs.Day.{leap, monthDays, realDay, dayOf, isDay, dated as judgedDay}
 use Rattle.rules.specs.Article.{checkValue, weighted, gs1, isbn, seriesVolume, article}
@@ -17,7 +19,8 @@ use Rattle.record.specs.Fields.{headOf, idIn, idOf, contentWidth, contentOf, fi
 use Rattle.record.specs.Values.{fieldBytes, orderOf, deliveryOf, reportOf, noOrder}
 use Rattle.record.specs.Read.{bytesJudged, fixedJudged, afterWalk, optionalJudged, kindJudged, judged, outcome, optionalStart, optionalFields, tableAfter, check, judgedAs, orderFrom, readOrder, deliveryFrom, readDelivery, reportFrom, readReport}
 use Rattle.record.specs.Samples.{X, Y, Z, put, Call, cases, readingOf, firstWrong}
-use Rattle.record.specs.Edges.{C, recordEdges, orderEdges, deliveryEdges, walkEdges, titled, fullTable, shortTable, contentEdges, groupEdges}
+use Rattle.record.specs.Edges.{C, recordEdges, byteEdges, orderEdges, deliveryEdges, walkEdges, titled, fullTable, shortTable, contentEdges, groupEdges}
+use Rattle.rules.specs.declared.class.Class.the-variants.{Allowed}
 use Rattle.rules.specs.declared.expected.Expected.the-variants.{On, Zeros, Blanks}
 use Rattle.record.specs.declared.answer.Checked.{Checked}
 
@@ -27,8 +30,13 @@ readSays call s = check s fullTable .said
 
 -- what is computed of reading: the number of the first row that is wrong is 0 in each table
 pub record Computed : Type 0 where
+  -- each of the 256 bytes is allowed, or is none of these
+  pub each-byte : length (allowedBytes ++ otherBytes) ≡ 256
+  pub allowed : all (belongs Allowed) allowedBytes ≡ true
+  pub other-bytes : any (belongs Allowed) otherBytes ≡ false
   pub samples : firstWrong readSays 1 (readingOf cases) ≡ 0
   pub records : firstWrong readSays 1 recordEdges ≡ 0
+  pub ends : firstWrong readSays 1 byteEdges ≡ 0
   pub orders : firstWrong readSays 1 orderEdges ≡ 0
   pub deliveries : firstWrong readSays 1 deliveryEdges ≡ 0
   pub walks : firstWrong readSays 1 walkEdges ≡ 0
@@ -64,10 +72,14 @@ pub record Computed : Type 0 where
   pub other : readOrder Y ≡ record { checked = record { answer = 2; place = 0; fields = 0 }; order = noOrder }
 
 pub computed : Computed
-unfolding all any run same among belongs allOf ofClass padded named numberFrom leap monthDays realDay dayOf isDay judgedDay checkValue weighted gs1 isbn seriesVolume article texts dayCount expected keeps layout total startOf kindOf firstBroken contents isIn ruleIn contentRule guardedIds guarded contentKept groups firstOf nextIn previousIn groupWith nextMember previousMember isWanted groupKept refusalNumber refusalPlace checkedOf _then_ headOf idIn idOf contentWidth contentOf fieldWidth afterField onHead atField walk judge fixedWidth bytesJudged fixedJudged afterWalk optionalJudged kindJudged judged expectedOf fieldsOf entriesOf fieldBytes orderOf deliveryOf reportOf optionalStart optionalFields tableAfter check judgedAs orderFrom readOrder deliveryFrom readDelivery reportFrom readReport titled fullTable shortTable cases recordEdges orderEdges deliveryEdges walkEdges contentEdges groupEdges readingOf firstWrong
+unfolding all any run same among belongs allOf ofClass padded named numberFrom leap monthDays realDay dayOf isDay judgedDay checkValue weighted gs1 isbn seriesVolume article texts dayCount expected keeps layout total startOf kindOf firstBroken contents isIn ruleIn contentRule guardedIds guarded contentKept groups firstOf nextIn previousIn groupWith nextMember previousMember isWanted groupKept refusalNumber refusalPlace checkedOf _then_ headOf idIn idOf contentWidth contentOf fieldWidth afterField onHead atField walk judge fixedWidth bytesJudged fixedJudged afterWalk optionalJudged kindJudged judged expectedOf fieldsOf entriesOf fieldBytes orderOf deliveryOf reportOf optionalStart optionalFields tableAfter check judgedAs orderFrom readOrder deliveryFrom readDelivery reportFrom readReport titled fullTable shortTable cases allowedBytes otherBytes recordEdges byteEdges orderEdges deliveryEdges walkEdges contentEdges groupEdges readingOf firstWrong
 computed = record {
+  each-byte = refl;
+  allowed = refl;
+  other-bytes = refl;
   samples = refl;
   records = refl;
+  ends = refl;
   orders = refl;
   deliveries = refl;
   walks = refl;

@@ -1,11 +1,12 @@
 -- Cases of saving and loading: the empty book, two schools' lines with their slips, each reason of 22, 23, and the limit of a sum from both sides.
 use Prim.Native.Nat.{ℕ, _+_}
 use Prim.Native.String.{String}
-use mathlib.Core.List.{List, [], _∷_, _++_}
+use mathlib.Core.List.{List, [], _∷_, _++_, map}
 use lib.Dec.{eqb, ltb}
 use lib.ListN.{take, replicate, set}
 use Rattle.cells.specs.Bytes.{pick, bytes}
 use Rattle.cells.specs.Little.{leBytes}
+use Rattle.rules.specs.Cases.{refusedBytes, takenBytes}
 use Rattle.record.specs.Samples.{X, Y, Z, put}
 use Rattle.book.specs.Lent.{Lent}
 use Rattle.book.specs.Booking.{book}
@@ -122,6 +123,14 @@ loads =
     ∷ (ours ++ (theirs ++ (put 1 "43212" ours ++ endOf 3 0))) gives 23
     ∷ (ours ++ (ourSlip ++ (put 43 "0002" ourSlip ++ (put 43 "0003" ourSlip ++ endOf 1 3)))) gives 23
     ∷ []
+
+-- a saved book with each byte at the ends of what is allowed
+abbrev atEnds : (ℕ → List ℕ) → List Case
+atEnds s = map (λ b. s b gives 22) refusedBytes ++ map (λ b. s b gives 0) takenBytes
+
+-- in a line's reference and in a slip number
+unfoldable pub byteLoads : List Case
+byteLoads = atEnds (λ b. set ours 26 b ++ endOf 1 0) ++ atEnds (λ b. ours ++ (set ourSlip 34 b ++ endOf 1 1))
 
 -- the number, from 1, of the first case that loading answers otherwise, or 0
 unfoldable pub firstWrong : ℕ → List Case → ℕ

@@ -1,10 +1,11 @@
 -- Cases of writing at each of its answers and places, with what must be said and written.
 use Prim.Native.Nat.{ℕ, suc, _^_}
 use mathlib.Core.Bool.{Bool, _&&_}
-use mathlib.Core.List.{List, [], _∷_, _++_}
+use mathlib.Core.List.{List, [], _∷_, _++_, map}
 use lib.Dec.{eqb}
-use lib.ListN.{length, take, drop, replicate}
+use lib.ListN.{length, take, drop, replicate, set}
 use Rattle.cells.specs.Bytes.{pick, bytes, same}
+use Rattle.rules.specs.Cases.{refusedBytes, takenBytes}
 use Rattle.record.specs.Samples.{X, Y, Z, put}
 use Rattle.record.specs.Edges.{C}
 use Rattle.record.specs.Values.{orderOf, deliveryOf, reportOf}
@@ -71,8 +72,8 @@ writeCases =
     ∷ refused (put 4 "          " FX) [] 0 [] 72 5 1
     ∷ refused (put 28 "20230229" FX) [] 0 [] 72 5 5
     ∷ refused (put 36 "A*" FX) [] 0 [] 72 5 6
-    ∷ refused (take 40 FX ++ (10 ∷ drop 41 FX)) [] 0 [] 72 5 6  -- a byte not allowed counts as 5
-    ∷ refused (take 40 (put 28 "20230229" FX) ++ (10 ∷ drop 41 FX)) [] 0 [] 72 5 5  -- the first by index
+    ∷ refused (set FX 40 10) [] 0 [] 72 5 6  -- a byte not allowed counts as 5
+    ∷ refused (set (put 28 "20230229" FX) 40 10) [] 0 [] 72 5 5  -- the first by index
     ∷ refused (put 65 "XX" FX) [] 0 [] 72 5 10
     ∷ refused (put 28 "00000000" (take 108 Y)) [] 0 [] 200 5 6
     ∷ refused (put 75 "0001" (take 79 Z)) [] 0 [] 84 5 12
@@ -103,6 +104,20 @@ writeCases =
     ∷ refused FX titled 2 K 88 23 0
     ∷ refused FX (entry 1017 0 5) 1 K 0 10 0  -- 10 before 23
     ∷ []
+
+-- a fixed part with each byte at the ends of what is allowed, in the field of index 6: it is 5, or written with what follows it
+abbrev inFixed : (ℕ → List ℕ) → List Case
+inFixed s = map (λ b. refused (s b) [] 0 [] 200 5 6) refusedBytes ++ map (λ b. case (s b) [] 0 [] 200 0 0 (s b ++ bytes "*9999")) takenBytes
+
+-- the lent contents with such a byte in the short title: 9, or written
+abbrev inTitle : List Case
+inTitle =
+    map (λ b. refused FX titled 2 (set K 2 b) 100 9 0) refusedBytes
+    ++ map (λ b. case FX titled 2 (set K 2 b) 100 0 0 (FX ++ (bytes "*1017" ++ (set (bytes "Title") 2 b ++ bytes "*1018KL*9999")))) takenBytes
+
+-- in a reference, in an optional content and in a slip number
+unfoldable pub byteCases : List Case
+byteCases = inFixed (set FX 37) ++ (inTitle ++ inFixed (set (take 108 Y) 37))
 
 -- an order, a delivery and a report with one value changed
 abbrev withCopies : ℕ → Order → Order
