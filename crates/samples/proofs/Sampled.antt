@@ -30,7 +30,7 @@ readSays call s = check s fullTable .said
 
 -- what is computed of reading: the number of the first row that is wrong is 0 in each table
 pub record Computed : Type 0 where
-  -- each of the 256 bytes is allowed, or is none of these
+  -- 256 bytes in two lists: all of the one are allowed, none of the other
   pub each-byte : length (allowedBytes ++ otherBytes) ≡ 256
   pub allowed : all (belongs Allowed) allowedBytes ≡ true
   pub other-bytes : any (belongs Allowed) otherBytes ≡ false
