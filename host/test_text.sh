@@ -1,15 +1,16 @@
 # Bytes above 127, odd bytes and odd names.
 
 # --- fields: Windows-1252 shown as UTF-8, all else escaped ----------------------------------------
-# Booked references hold 160 to 255; 128 to 159 are refused by the library, and shown all the same.
+# Booked references with letters and typographic marks; then every byte from 128 to 160, also those that stand for nothing.
 put "$(order "$(printf '\304\374\337\240\377')-\\" 0001 '' | sed 's/\\     97/\\97/')" \
-    "$(order A-1 0001 '')" >letters.bwa
+    "$(order A-1 0001 '')" "$(order "$(printf '\204A\2261\223')" 0001 '')" >letters.bwa
 run --new letters.book letters.bwa
 expect_code 0 "letters"
 expect_out "reference $(printf '\303\204\303\274\303\237\302\240\303\277')-\\x5C, article" "letters"
+expect_out "reference „A–1“, article" "marks"
 grep '^  24000' out >got
 figures='9783442756841 EN        1        0        1     -        0        0'
-printf '  24000 VD      %s%s\n' 'A-1         ' "$figures" \
+printf '  24000 VD      %s%s\n' 'A-1         ' "$figures" '„A–1“       ' "$figures" \
     "$(printf '\303\204\303\274\303\237\302\240\303\277')-\\x5C  " "$figures" >wanted
 expect_text got wanted "letters in the list, columns even"
 bytes() { byte=$1; while [ "$byte" -le "$2" ]; do printf "\\$(printf '%03o' "$byte")"; byte=$((byte + 1)); done; }

@@ -64,8 +64,9 @@ extern "C" {
 
 /* ---- Records --------------------------------------------------------------------------
  * A record is a fixed part, then up to 64 optional fields, then `*9999`; at most 1,024 bytes.
- * The CR LF that ends it in a file is not part of it. Allowed bytes are 32 to 126 and 160 to
- * 255; a blank is byte 32, a capital A to Z. In full: docs/RULES.md, sections 1 and 2.
+ * The CR LF that ends it in a file is not part of it. Allowed bytes are 32 to 126, 128, 130 to
+ * 140, 142, 145 to 156 and 158 to 255: what Windows-1252 assigns, without control signs. A
+ * blank is byte 32, a capital A to Z. In full: docs/RULES.md, sections 1 and 2.
  *
  * Fixed parts: index, place and length of each field, and what it holds. "Digits" and the
  * like fill the whole field.
