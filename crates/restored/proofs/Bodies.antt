@@ -9,7 +9,7 @@ use Rattle.cells.specs.Little.{leAt}
 use Rattle.entry.specs.Stored.{lineWidth, keyWidth, markAt, slipWidth, slipKeyWidth, slipCopiesPlace, keyAt, slipKeyAt, slipLineAt, slipCopiesAt}
 use Rattle.save.specs.Entries.{partiesAgree, lineIndex, slipCopies}
 use Rattle.save.specs.Saved.{lineBodyWidth, slipBodyWidth, lineBodyAt, slipBodyAt}
-use Rattle.save.proofs.Within.{byte-within, number-within, front-within}
+use Rattle.cells.proofs.Within.{byte-within, number-within, front-within}
 
 -- a line's
 module _ (ls : List ℕ) (i : ℕ) where

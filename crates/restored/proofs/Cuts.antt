@@ -12,7 +12,7 @@ use Rattle.cells.specs.Little.{leAt, leBytes}
 use Rattle.cells.proofs.Parts.{take-from}
 use Rattle.cells.proofs.Stores.{le-ext}
 use Rattle.rules.proofs.Runs.{all-at}
-use Rattle.save.proofs.Within.{number-within}
+use Rattle.cells.proofs.Within.{number-within}
 use Rattle.restored.specs.Restored.{Bytes}
 
 -- past a front

@@ -9,7 +9,7 @@ use lib.Seq.{slice, length-slice, take-at, take-all}
 use Rattle.cells.proofs.Parts.{next}
 use Rattle.save.specs.Saved.{joinedFrom}
 use Rattle.save.proofs.Joined.{joined-length}
-use Rattle.save.proofs.Within.{byte-within, part-within}
+use Rattle.cells.proofs.Within.{byte-within, part-within}
 use Rattle.restored.proofs.Cuts.{part-past, part-and-rest}
 
 -- entries that are equal at each place are joined the same

@@ -16,7 +16,7 @@ use Rattle.save.specs.Saved.{joinedFrom, lineBodyAt, slipBodyAt, statedLines, s
 use Rattle.save.specs.Load.{loadedLine, lentLoaded}
 use Rattle.save.proofs.Joined.{joined-length}
 use Rattle.restored.specs.Restored.{Tells}
-use Rattle.save.proofs.Within.{number-within, front-within}
+use Rattle.cells.proofs.Within.{number-within, front-within}
 use Rattle.restored.proofs.Cuts.{number-past, stored-front, bytes-wide}
 use Rattle.restored.proofs.Joined.{joined-part}
 use Rattle.restored.proofs.Views.{entries-same, arrived-same}

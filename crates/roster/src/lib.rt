@@ -7,16 +7,13 @@ ghost use Rattle.roster.specs.Roster.{entryWidth, rosterSound, accountIs
 pub mod schools;
 
 use cells::little::get4;
-use cells::same_by;
+use cells::same_wide;
 use cells::search::Found;
 
 // An entry: address 10, qualifier 2, ceiling 4. The first two are the account.
 pub const ENTRY_WIDTH: usize = 16;
 
 pub const ACCOUNT_WIDTH: usize = 12;
-
-// Where most accounts differ: the front of the address.
-pub const ACCOUNT_TELLS: usize = 0;
 
 pub const MOST_SCHOOLS: usize = 64;
 
@@ -40,7 +37,7 @@ fn account_is(roster: &[u8], i: usize, account: &[u8]) -> bool
 {
     let at = ENTRY_WIDTH * i;
     let end = at + ACCOUNT_WIDTH;
-    same_by(&roster[at..end], account, ACCOUNT_TELLS)
+    same_wide(&roster[at..end], account)
 }
 
 // The first entry with an account.

@@ -6,6 +6,7 @@ ghost use lib.ListN.{length};
 ghost use Rattle.roster.specs.Schools.{isOf, isAccount, placeIn, findSchool, ceilingOf, toldAt};
 use crate::MOST_SCHOOLS;
 use cells::same;
+use cells::same_wide;
 
 // An entry of the roster: in memory the 16 bytes of one.
 #[repr(C)]
@@ -33,7 +34,7 @@ fn is_of(school: School, address: &[u8], qualifier: &[u8]) -> bool
     ensures { λ r. ⌜ r ≡ isOf school (now (address .entry)) (now (qualifier .entry)) ⌝ }
 {
     let a = school.address;
-    if !same(&a, address) {
+    if !same_wide(&a, address) {
         return false;
     }
     let q = school.qualifier;

@@ -8,7 +8,7 @@ use lib.Seq.{length-slice, length-take-le}
 use Rattle.cells.specs.Little.{leAt}
 use Rattle.entry.specs.Stored.{keyWidth, slipKeyWidth}
 use Rattle.save.specs.Saved.{lineBodyWidth, slipBodyWidth, savedLineWidth, savedSlipWidth, lineIn, slipIn}
-use Rattle.save.proofs.Within.{number-within}
+use Rattle.cells.proofs.Within.{number-within}
 
 -- the body of a line that stands in the save
 pub line-long : (s : List ℕ) (i : ℕ) → savedLineWidth * i + savedLineWidth ≤ length s → length (lineIn s i) ≡ lineBodyWidth

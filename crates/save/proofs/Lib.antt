@@ -3,4 +3,3 @@ pub mod Firsts
 pub mod Forms
 pub mod Joined
 pub mod Keys
-pub mod Within

@@ -4,7 +4,7 @@ use Prim.Native.Nat.{_+_, _*_}
 use native.Mathlib.Omega.{arith}
 use Rattle.cells.proofs.Parts.{part-is}
 use Rattle.save.specs.Saved.{lineIn}
-use Rattle.save.proofs.Within.{front-within}
+use Rattle.cells.proofs.Within.{front-within}
 use borrow.Author.Needs.{needs}
 use Rattle.save.proofs.judge.line_key_in.Statement.{statement}
 use Rattle.save.proofs.judge.line_key_in.Tie as tie
