@@ -1,11 +1,11 @@
 -- The fields of a record that fits: each keeps its rule and has its length; so keys have their widths, and a quantity at most four digits.
 use mathlib.Core.Path.{_≡_, refl}
 use mathlib.Core.Bool.{Bool, true}
-use mathlib.Core.List.{List, [], _∷_}
+use mathlib.Core.List.{List, [], _∷_, map}
 use Prim.Native.Nat.{ℕ, _+_, _^_, _≤_, _<_}
 use native.Mathlib.Nat.{pow-le-pow-right}
 use native.Mathlib.Omega.{arith}
-use borrow.Author.Tests.{ltb-true}
+use borrow.Author.Tests.{eq-eqb, ltb-true}
 use lib.Dec.{ltb, lit<}
 use lib.ListN.{length, getD, length-append}
 use Rattle.cells.specs.Bytes.{all, within, joined}
@@ -23,6 +23,7 @@ use Rattle.record.specs.declared.layout.Kind.the-variants.{Order, Goods}
 use Rattle.record.proofs.Kept.{each-kept, field-length}
 use Rattle.reader.proofs.Fitting.{Fitting}
 use Rattle.entry.specs.Stored.{keyWidth, slipKeyWidth, mostCopies}
+use Rattle.book.specs.Asked.{areWide}
 use Rattle.book.specs.Booking.{keyFields, lineKey, slipKey, copiesIn, fieldsIn}
 
 -- the lengths of the fields with some indexes, added up
@@ -40,6 +41,16 @@ fields-length k s h (i ∷ is) w =
     let r : Bool = all (λ i. ltb i (length (layout k))) is in
     rw (length-append (fieldBytes k i s) (joined (fieldsIn k is s)), field-length k s h i (ltb-true i (length (layout k)) (and-left q r w)), fields-length k s h is (and-right q r w))
 
+-- each of them has its length
+pub fields-wide : (k : Kind) (s : List ℕ) → fixedWidth k ≤ length s → (is : List ℕ) → all (λ i. ltb i (length (layout k))) is ≡ true
+    → areWide (map (λ (i : ℕ). getD (layout k) i noField .size) is) (fieldsIn k is s) ≡ true
+unfolding areWide all
+fields-wide k s h [] w = refl
+fields-wide k s h (i ∷ is) w =
+    let q : Bool = ltb i (length (layout k)) in
+    let r : Bool = all (λ i. ltb i (length (layout k))) is in
+    rw (eq-eqb _ _ (field-length k s h i (ltb-true i (length (layout k)) (and-left q r w))), fields-wide k s h is (and-right q r w))
+
 -- at most four digits spell at most 9,999
 pub digits-most : (xs : List ℕ) → ofClass Digit 4 4 xs ≡ true → number xs ≤ mostCopies
 unfolding ofClass allOf belongs
@@ -49,15 +60,22 @@ digits-most xs e =
     let p : 10 ^ (0 + length xs) ≤ 10 ^ 4 = pow-le-pow-right (lit< tt) most in
     omega (arith, width 0 0 xs (omega arith) (and-right (within 4 4 (length xs)) (allOf Digit xs) e))
 
+-- keys in a record that is long enough
+pub order-key-long : (s : List ℕ) → fixedWidth Order ≤ length s → length (lineKey Order s) ≡ keyWidth
+unfolding lineKey keyFields layout all
+order-key-long s h = fields-length Order s h (1 ∷ 2 ∷ 3 ∷ 4 ∷ 6 ∷ 7 ∷ 8 ∷ []) refl
+
+pub slip-key-long : (s : List ℕ) → fixedWidth Goods ≤ length s → length (slipKey s) ≡ slipKeyWidth
+unfolding slipKey layout all
+slip-key-long s h = fields-length Goods s h (1 ∷ 2 ∷ 3 ∷ 4 ∷ 5 ∷ 6 ∷ 7 ∷ []) refl
+
 -- the keys and the quantity of a record that fits
 module _ (s : List ℕ) (n : ℕ) where
   pub order-key : Fitting Order s n → length (lineKey Order s) ≡ keyWidth
-  unfolding lineKey keyFields layout all
-  order-key f = fields-length Order s (omega (arith, f .wide)) (1 ∷ 2 ∷ 3 ∷ 4 ∷ 6 ∷ 7 ∷ 8 ∷ []) refl
+  order-key f = order-key-long s (omega (arith, f .wide))
 
   pub slip-key-width : Fitting Goods s n → length (slipKey s) ≡ slipKeyWidth
-  unfolding slipKey layout all
-  slip-key-width f = fields-length Goods s (omega (arith, f .wide)) (1 ∷ 2 ∷ 3 ∷ 4 ∷ 5 ∷ 6 ∷ 7 ∷ []) refl
+  slip-key-width f = slip-key-long s (omega (arith, f .wide))
 
   pub order-copies : Fitting Order s n → copiesIn Order s .0 ≤ mostCopies
   unfolding copiesIn layout keeps fieldBytes

@@ -1,3 +1,4 @@
 // The book in lent bytes: its answers, search and soundness.
 pub mod answer;
+pub mod keyed;
 pub mod seek;

@@ -1,16 +1,27 @@
 // Searches and tests over the used entries of a lent book.
 ghost use mathlib.Core.Path.{_≡_};
 ghost use mathlib.Core.Bool.{true};
+ghost use mathlib.Core.List.{map};
 ghost use Prim.Native.Nat.{_*_, _≤_, _<_};
 ghost use lib.ListN.{length};
+ghost use Rattle.cells.specs.Bytes.{joined};
 ghost use Rattle.cells.specs.Search.{firstFrom, allFrom, sumFrom};
-ghost use Rattle.entry.specs.Stored.{lineWidth, slipWidth, keyIs, slipIs, openAt, lineSound, slipSound};
+ghost use Rattle.entry.specs.Stored.{lineWidth, slipWidth, slipKeyWidth, keyIs, slipIs, openAt, lineSound, slipSound};
 ghost use Rattle.book.specs.Lent.{mostLines, lent, roomSound, sound};
+ghost use Rattle.book.specs.Asked.{keyWidths, areWide};
+use crate::keyed::key_is;
+use cells::little::word8;
 use cells::search::Found;
+use entry::key::KEY_FIELDS;
+use entry::key::REFERENCE_FIELD;
+use entry::key::REFERENCE_TELLS;
+use entry::key::SCHOOL_FIELD;
+use entry::key::SCHOOL_TELLS;
+use entry::stored::KEY_TELLS;
 use entry::stored::LINE_WIDTH;
+use entry::stored::SLIP_KEY_TELLS;
 use entry::stored::SLIP_WIDTH;
 use entry::stored::is_line_sound;
-use entry::stored::key_is;
 use entry::stored::open_at;
 use entry::stored::slip_is;
 use entry::stored::slip_line;
@@ -19,32 +30,46 @@ pub const MOST_LINES: usize = 512;
 
 pub const MOST_SLIPS: usize = 1024;
 
-// The first of the used lines with a key.
-pub fn find_line(lines: &[u8], count: usize, key: &[u8]) -> Found
-    requires { ⌜ lineWidth * count ≤ length (now lines) ⌝ }
-    ensures { λ r. ⌜ r ≡ firstFrom (keyIs (now (lines .entry)) (now (key .entry))) count 0 ⌝ }
+// The first of the used lines with a key. Reference and school, which tell most keys apart, are looked at by eight bytes each; the whole key is compared only where both are there.
+pub fn find_line(lines: &[u8], count: usize, key: [&[u8]; KEY_FIELDS]) -> Found
+    requires { ⌜ (lineWidth * count ≤ length (now lines)) × (areWide keyWidths (map now key) ≡ true) ⌝ }
+    ensures { λ r. ⌜ r ≡ firstFrom (keyIs (now (lines .entry)) (joined (map now (key .entry)))) count 0 ⌝ }
 {
+    let school = word8(key[SCHOOL_FIELD], SCHOOL_TELLS);
+    let reference = word8(key[REFERENCE_FIELD], REFERENCE_TELLS);
     let mut i: usize = 0;
     while i < count {
-        if key_is(lines, i, key) {
-            return Found::At(i);
-        }
+        let line = i;
         i += 1;
+        if word8(lines, LINE_WIDTH * line + KEY_TELLS) != reference {
+            continue;
+        }
+        if word8(lines, LINE_WIDTH * line + SCHOOL_TELLS) != school {
+            continue;
+        }
+        if key_is(lines, line, key) {
+            return Found::At(line);
+        }
     }
     Found::Nothing
 }
 
-// The first of the used slips with a key.
+// The first of the used slips with a key: the end of the slip number and the position are looked at first.
 pub fn find_slip(slips: &[u8], count: usize, key: &[u8]) -> Found
-    requires { ⌜ slipWidth * count ≤ length (now slips) ⌝ }
+    requires { ⌜ (slipWidth * count ≤ length (now slips)) × (length (now key) ≡ slipKeyWidth) ⌝ }
     ensures { λ r. ⌜ r ≡ firstFrom (slipIs (now (slips .entry)) (now (key .entry))) count 0 ⌝ }
 {
+    let told = word8(key, SLIP_KEY_TELLS);
     let mut j: usize = 0;
     while j < count {
-        if slip_is(slips, j, key) {
-            return Found::At(j);
-        }
+        let slip = j;
         j += 1;
+        if word8(slips, SLIP_WIDTH * slip + SLIP_KEY_TELLS) != told {
+            continue;
+        }
+        if slip_is(slips, slip, key) {
+            return Found::At(slip);
+        }
     }
     Found::Nothing
 }

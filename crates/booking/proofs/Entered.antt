@@ -5,19 +5,17 @@ use Prim.Native.Nat.{ℕ, _+_, _≤_}
 use native.Mathlib.Omega.{arith}
 use borrow.Author.Tests.{ne-eqb}
 use lib.ListN.{length, getD, set}
-use lib.Seq.{length-slice}
 use Rattle.cells.specs.Bytes.{same}
 use Rattle.cells.proofs.Parts.{next, nothing}
 use Rattle.record.specs.Layout.{layout, total, startOf, fixedWidth}
 use Rattle.record.specs.Values.{fieldBytes}
 use Rattle.record.specs.declared.layout.Kind.the-variants.{Order, Goods, Report}
 use Rattle.entry.specs.Line.{withMark, withArrivals}
-use Rattle.entry.specs.Stored.{lineAt, putLine, addLine, addSlip, slipKeyWidth}
+use Rattle.entry.specs.Stored.{lineAt, putLine, addLine, addSlip}
 use Rattle.entry.specs.declared.line.Mark.the-variants.{Held, Dropped}
 use Rattle.book.specs.Lent.{lent, usedLines, usedSlips}
 use Rattle.book.specs.Booking.{lineKey, slipKey, copiesIn, markIn, newLine, lineAfter, lentAfter, outcome, doneAs, enteredAs}
-use Rattle.values.proofs.Places.{delivery-width, report-width}
-use Rattle.judging.proofs.Named.{slip-key-is}
+use Rattle.values.proofs.Places.{report-width}
 
 -- the field with the mark is one byte
 mark-byte : (s : List ℕ) → fixedWidth Report ≤ length s → fieldBytes Report 10 s ≡ getD s 66 0 ∷ []
@@ -33,10 +31,6 @@ module _ (s : List ℕ) (h : fixedWidth Report ≤ length s) where
   pub mark-dropped : (getD s 66 0 ≡ 74 → ⊥) → markIn s ≡ Dropped
   unfolding markIn same
   mark-dropped e = rw (mark-byte s h, ne-eqb _ _ e)
-
--- a slip's key is as wide as its place
-pub slip-key-width : (s : List ℕ) → fixedWidth Goods ≤ length s → length (slipKey s) ≡ slipKeyWidth
-slip-key-width s h = rw (slip-key-is s) (length-slice 4 50 s (omega (arith, delivery-width)))
 
 -- what the code writes and says, one record of each kind
 module _ (s lines slips used : List ℕ) (i : ℕ) where

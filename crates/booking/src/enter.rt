@@ -15,14 +15,16 @@ use entry::stored::read_line;
 use entry::stored::write_line;
 use entry::stored::write_new_line;
 use entry::stored::write_slip;
-use judging::keys::order_key;
 use judging::keys::slip_key;
 use record::layout::Kind;
 use record::places::HOLD;
 use record::places::ORDER_MEASURE;
 use record::places::ORDER_QUANTITY;
+use record::places::ORDER_REFERENCE;
+use record::places::PARTIES_END;
 use record::places::PRICE;
 use record::places::QUANTITY;
+use record::places::SENDER;
 use rules::amount::Copies;
 use rules::amount::copies_of;
 
@@ -63,8 +65,13 @@ pub fn enter_order(
     ensures { λ r. ⌜ outcome r (lent (now (lines .exit)) (now (slips .entry)) (now (used .exit))) ≡ enteredAs Kind.Order (now (s .entry)) (lent (now (lines .entry)) (now (slips .entry)) (now (used .entry))) i ⌝ }
 {
     let l = new_line(copies_of(part(s, ORDER_QUANTITY, ORDER_MEASURE)));
-    let key = order_key(s);
-    write_new_line(lines, i, &key, l);
+    write_new_line(
+        lines,
+        i,
+        part(s, SENDER, PARTIES_END),
+        part(s, ORDER_REFERENCE, ORDER_QUANTITY),
+        l,
+    );
     used[0] = used[0] + 1;
     done(l)
 }

@@ -1,5 +1,5 @@
 -- The stores that write a line or a slip are one run.
-use mathlib.Core.Path.{_≡_}
+use mathlib.Core.Path.{_≡_, _∙_, ap, sym}
 use mathlib.Core.List.{List, _++_}
 use Prim.Native.Nat.{ℕ, suc, _+_, _*_}
 use native.Mathlib.Omega.{arith}
@@ -25,6 +25,12 @@ put-line ls i l =
 pub add-line : (ls : List ℕ) (i : ℕ) (key : List ℕ) (l : Line) → length key ≡ keyWidth → putLine (sets ls (lineWidth * i) key) i l ≡ addLine ls i key l
 unfolding putLine addLine
 add-line ls i key l e = rw (sets-append ls (lineWidth * i) key (lineBytes l), e)
+
+-- the key stored in two parts
+pub add-line-parts : (ls : List ℕ) (i : ℕ) (front back : List ℕ) (l : Line) → length (front ++ back) ≡ keyWidth
+    → putLine (sets (sets ls (lineWidth * i) front) (lineWidth * i + length front) back) i l ≡ addLine ls i (front ++ back) l
+add-line-parts ls i front back l e =
+    ap (λ (d : List ℕ). putLine d i l) (sym (sets-append ls (lineWidth * i) front back)) ∙ add-line ls i (front ++ back) l e
 
 -- the key, and after it the index and the quantity
 pub add-slip : (ss : List ℕ) (j : ℕ) (key : List ℕ) (line : ℕ) (n : Copies) → length key ≡ slipKeyWidth

@@ -1,4 +1,12 @@
-// Where the fields of a key stand in it. Both keys begin with two addresses, each with its qualifier.
+// The fields of a key: how wide they are, and where they stand in it. Both keys begin with two addresses, each with its qualifier.
+pub const ADDRESS_WIDTH: usize = 10;
+
+pub const QUALIFIER_WIDTH: usize = 2;
+
+pub const REFERENCE_WIDTH: usize = 10;
+
+pub const ARTICLE_WIDTH: usize = 13;
+
 pub const FIRST_QUALIFIER_AT: usize = 10;
 
 pub const SECOND_PARTY_AT: usize = 12;
@@ -22,3 +30,14 @@ pub const DATE_AT: usize = 24;
 pub const SLIP_NUMBER_AT: usize = 32;
 
 pub const POSITION_AT: usize = 42;
+
+// A line's key given field by field has seven. The first and the fifth tell most keys apart: schools by the front of their address, references by their last eight bytes.
+pub const KEY_FIELDS: usize = 7;
+
+pub const SCHOOL_FIELD: usize = 0;
+
+pub const REFERENCE_FIELD: usize = 4;
+
+pub const SCHOOL_TELLS: usize = 0;
+
+pub const REFERENCE_TELLS: usize = 2;

@@ -1,8 +1,11 @@
 // Lines and slips in lent bytes. A line is its key, Q, mark and A; a slip is its key, the index of its line and its quantity.
 ghost use mathlib.Core.Path.{_≡_};
+ghost use mathlib.Core.List.{_++_};
 ghost use Prim.Native.Nat.{_+_, _*_, _≤_, _<_};
 ghost use lib.ListN.{length};
-ghost use Rattle.entry.specs.Stored.{lineWidth, keyWidth, slipWidth, slipKeyWidth, lineAt, keyIs, schoolIs, openAt, putLine, addLine, lineSound, slipIs, slipLineAt, slipCopiesAt, addSlip};
+ghost use Rattle.entry.specs.Stored.{lineWidth, keyWidth, slipWidth, slipKeyWidth, lineAt, schoolIs, openAt, putLine, addLine, lineSound, slipIs, slipLineAt, slipCopiesAt, addSlip};
+use crate::key::REFERENCE_AT;
+use crate::key::REFERENCE_TELLS;
 use crate::key::SCHOOL_WIDTH;
 use crate::line::Line;
 use crate::line::mark_byte;
@@ -12,7 +15,7 @@ use cells::little::get4;
 use cells::little::put2;
 use cells::little::put4;
 use cells::paste_at;
-use cells::same_by;
+use cells::same_wide;
 use rules::amount::Copies;
 
 pub const LINE_WIDTH: usize = 56;
@@ -20,10 +23,7 @@ pub const LINE_WIDTH: usize = 56;
 pub const KEY_WIDTH: usize = 49;
 
 // Where most keys of lines differ: the last eight bytes of the reference.
-pub const KEY_TELLS: usize = 26;
-
-// Where most schools differ: the front of the address.
-pub const SCHOOL_TELLS: usize = 0;
+pub const KEY_TELLS: usize = REFERENCE_AT + REFERENCE_TELLS;
 
 pub const MARK_AT: usize = 51;
 
@@ -72,23 +72,15 @@ pub fn write_line(lines: &mut [u8], i: usize, l: Line)
     put4(lines, at + ARRIVED_AT, l.arrived.0);
 }
 
-// A line with its key.
-pub fn write_new_line(lines: &mut [u8], i: usize, key: &[u8], l: Line)
-    requires { ⌜ (length (now key) ≡ keyWidth) × (lineWidth * i + lineWidth ≤ length (now lines)) ⌝ }
-    ensures { λ _. ⌜ now (lines .exit) ≡ addLine (now (lines .entry)) i (now (key .entry)) l ⌝ }
-{
-    paste_at(lines, LINE_WIDTH * i, key);
-    write_line(lines, i, l);
-}
-
-// Whether the line with an index has a key, compared in place.
-pub fn key_is(lines: &[u8], i: usize, key: &[u8]) -> bool
-    requires { ⌜ lineWidth * i + lineWidth ≤ length (now lines) ⌝ }
-    ensures { λ r. ⌜ r ≡ keyIs (now (lines .entry)) (now (key .entry)) i ⌝ }
+// A line with its key, which stands in two parts.
+pub fn write_new_line(lines: &mut [u8], i: usize, front: &[u8], back: &[u8], l: Line)
+    requires { ⌜ (length (now front ++ now back) ≡ keyWidth) × (lineWidth * i + lineWidth ≤ length (now lines)) ⌝ }
+    ensures { λ _. ⌜ now (lines .exit) ≡ addLine (now (lines .entry)) i (now (front .entry) ++ now (back .entry)) l ⌝ }
 {
     let at = LINE_WIDTH * i;
-    let end = at + KEY_WIDTH;
-    same_by(&lines[at..end], key, KEY_TELLS)
+    paste_at(lines, at, front);
+    paste_at(lines, at + front.len(), back);
+    write_line(lines, i, l);
 }
 
 // Whether the line with an index is a school's, compared in place.
@@ -98,7 +90,7 @@ fn school_is(lines: &[u8], i: usize, school: &[u8]) -> bool
 {
     let at = LINE_WIDTH * i;
     let end = at + SCHOOL_WIDTH;
-    same_by(&lines[at..end], school, SCHOOL_TELLS)
+    same_wide(&lines[at..end], school)
 }
 
 // The open copies of the line with an index where it is a school's, else none.
@@ -131,7 +123,7 @@ pub fn slip_is(slips: &[u8], j: usize, key: &[u8]) -> bool
 {
     let at = SLIP_WIDTH * j;
     let end = at + SLIP_KEY_WIDTH;
-    same_by(&slips[at..end], key, SLIP_KEY_TELLS)
+    same_wide(&slips[at..end], key)
 }
 
 // The index of a slip's line.

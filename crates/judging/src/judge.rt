@@ -1,11 +1,14 @@
 // What a sound book says of a record that is read: nothing is written yet.
 ghost use mathlib.Core.Path.{_≡_};
 ghost use mathlib.Core.Bool.{true};
+ghost use mathlib.Core.List.{map};
 ghost use Prim.Native.Nat.{_+_, _*_, _≤_, _<_};
 ghost use lib.ListN.{length};
+ghost use Rattle.cells.specs.Bytes.{joined};
 ghost use Rattle.record.specs.Layout.{fixedWidth};
 ghost use Rattle.entry.specs.Stored.{lineWidth, slipWidth, mostCopies, mostArrived, lineAt, slipLineAt};
 ghost use Rattle.book.specs.Lent.{lent, sound, findLine, findSlip, openCopies};
+ghost use Rattle.book.specs.Asked.{keyWidths, areWide};
 ghost use Rattle.book.specs.Booking.{schoolIn, lineKey, slipKey, copiesIn, newLineJudged, orderJudged, slipJudged, arrivalJudged, deliveryJudged, reportJudged, fitJudged};
 use crate::keys::goods_key;
 use crate::keys::order_key;
@@ -13,15 +16,16 @@ use crate::keys::report_key;
 use crate::keys::slip_key;
 use book::answer::Refused;
 use book::answer::Verdict;
+use book::keyed::key_is;
 use book::seek::find_line;
 use book::seek::find_slip;
 use book::seek::open_copies;
 use cells::part;
 use cells::search::Found;
+use entry::key::KEY_FIELDS;
 use entry::stored::LINE_WIDTH;
 use entry::stored::MOST_ARRIVED;
 use entry::stored::SLIP_WIDTH;
-use entry::stored::key_is;
 use entry::stored::read_line;
 use entry::stored::slip_copies;
 use entry::stored::slip_line;
@@ -83,7 +87,7 @@ fn judge_new_line(
     ensures { λ r. ⌜ r ≡ orderJudged (lent (now (lines .entry)) (now (slips .entry)) (now (used .entry))) (schoolIn Kind.Order (now (s .entry))) copies ceiling (findLine (lent (now (lines .entry)) (now (slips .entry)) (now (used .entry))) (lineKey Kind.Order (now (s .entry)))) ⌝ }
 {
     let key = order_key(s);
-    match find_line(lines, used[0], &key) {
+    match find_line(lines, used[0], key) {
         Found::At(_) => Verdict::Refuse(Refused::LineExists),
         Found::Nothing => judge_room(
             part(s, SENDER, RECIPIENT),
@@ -122,15 +126,15 @@ pub fn judge_order(
 
 // 17 or 18, where the slip key is booked at j.
 fn judge_slip(
-    key: &[u8],
+    key: [&[u8]; KEY_FIELDS],
     copies: Copies,
     lines: &[u8],
     slips: &[u8],
     used: &[usize; 2],
     j: usize,
 ) -> Verdict
-    requires { ⌜ (slipWidth * j + slipWidth ≤ length (now slips)) × (lineWidth * slipLineAt (now slips) j + lineWidth ≤ length (now lines)) ⌝ }
-    ensures { λ r. ⌜ r ≡ slipJudged (lent (now (lines .entry)) (now (slips .entry)) (now (used .entry))) (now (key .entry)) copies j ⌝ }
+    requires { ⌜ (slipWidth * j + slipWidth ≤ length (now slips)) × (lineWidth * slipLineAt (now slips) j + lineWidth ≤ length (now lines)) × (areWide keyWidths (map now key) ≡ true) ⌝ }
+    ensures { λ r. ⌜ r ≡ slipJudged (lent (now (lines .entry)) (now (slips .entry)) (now (used .entry))) (joined (map now (key .entry))) copies j ⌝ }
 {
     if key_is(lines, slip_line(slips, j), key) & (slip_copies(slips, j).0 == copies.0) {
         return Verdict::Refuse(Refused::SlipBooked);
@@ -166,8 +170,8 @@ fn judge_delivery(
 {
     let key = goods_key(s);
     match find_slip(slips, used[1], slip_key(s)) {
-        Found::At(j) => judge_slip(&key, copies, lines, slips, used, j),
-        Found::Nothing => match find_line(lines, used[0], &key) {
+        Found::At(j) => judge_slip(key, copies, lines, slips, used, j),
+        Found::Nothing => match find_line(lines, used[0], key) {
             Found::Nothing => Verdict::Refuse(Refused::NoLine),
             Found::At(i) => judge_arrival(copies, lines, slips, used, i),
         },
@@ -207,7 +211,7 @@ fn judge_mark(s: &[u8], lines: &[u8], slips: &[u8], used: &[usize; 2]) -> Verdic
     ensures { λ r. ⌜ r ≡ reportJudged (findLine (lent (now (lines .entry)) (now (slips .entry)) (now (used .entry))) (lineKey Kind.Report (now (s .entry)))) ⌝ }
 {
     let key = report_key(s);
-    match find_line(lines, used[0], &key) {
+    match find_line(lines, used[0], key) {
         Found::Nothing => Verdict::Refuse(Refused::NoLine),
         Found::At(i) => Verdict::Fits(i),
     }

@@ -1,61 +1,69 @@
-// The keys that a record names.
+// The keys that a record names, by their fields where these stand in it.
 ghost use mathlib.Core.Path.{_≡_};
-ghost use Prim.Native.Nat.{_≤_};
+ghost use mathlib.Core.List.{[], _∷_, map};
+ghost use Prim.Native.Nat.{_+_, _≤_};
 ghost use lib.ListN.{length};
+ghost use lib.Seq.{slice};
 ghost use Rattle.record.specs.Layout.{fixedWidth};
-ghost use Rattle.book.specs.Booking.{lineKey, slipKey};
+ghost use Rattle.book.specs.Booking.{keyFields, fieldsIn, slipKey};
 use cells::part;
-use cells::paste_at;
-use entry::key::REFERENCE_AT;
-use entry::key::SECOND_PARTY_AT;
+use entry::key::ADDRESS_WIDTH;
+use entry::key::ARTICLE_WIDTH;
+use entry::key::KEY_FIELDS;
+use entry::key::QUALIFIER_WIDTH;
+use entry::key::REFERENCE_WIDTH;
 use record::layout::Kind;
-use record::places::MESSAGE;
-use record::places::ORDER_QUANTITY;
 use record::places::ORDER_REFERENCE;
-use record::places::PARTIES_END;
-use record::places::QUANTITY;
 use record::places::RECIPIENT;
 use record::places::REFERENCE;
 use record::places::REPORT_REFERENCE;
 use record::places::SENDER;
 
-// An order's school is its sender, so both parties stand as in the key.
-pub fn order_key(s: &[u8]) -> [u8; 49]
-    requires { ⌜ fixedWidth Kind.Order ≤ length (now s) ⌝ }
-    ensures { λ r. ⌜ r ≡ lineKey Kind.Order (now (s .entry)) ⌝ }
+// The fields of a line's key, by where school, supplier and what is wanted begin.
+fn key_at(s: &[u8], school: usize, supplier: usize, wanted: usize) -> [&[u8]; KEY_FIELDS]
+    requires { ⌜ (school + 12 ≤ length (now s)) × (supplier + 12 ≤ length (now s)) × (wanted + 25 ≤ length (now s)) ⌝ }
+    ensures { λ r. ⌜ map now r ≡ slice school (school + 10) (now (s .entry)) ∷ slice (school + 10) (school + 12) (now (s .entry)) ∷ slice supplier (supplier + 10) (now (s .entry)) ∷ slice (supplier + 10) (supplier + 12) (now (s .entry)) ∷ slice wanted (wanted + 10) (now (s .entry)) ∷ slice (wanted + 10) (wanted + 23) (now (s .entry)) ∷ slice (wanted + 23) (wanted + 25) (now (s .entry)) ∷ [] ⌝ }
 {
-    let mut key = [0u8; 49];
-    paste_at(&mut key, 0, part(s, SENDER, PARTIES_END));
-    paste_at(
-        &mut key,
-        REFERENCE_AT,
-        part(s, ORDER_REFERENCE, ORDER_QUANTITY),
-    );
-    key
+    let school_qualifier = school + ADDRESS_WIDTH;
+    let school_end = school_qualifier + QUALIFIER_WIDTH;
+    let supplier_qualifier = supplier + ADDRESS_WIDTH;
+    let supplier_end = supplier_qualifier + QUALIFIER_WIDTH;
+    let article = wanted + REFERENCE_WIDTH;
+    let article_qualifier = article + ARTICLE_WIDTH;
+    let end = article_qualifier + QUALIFIER_WIDTH;
+    [
+        &s[school..school_qualifier],
+        &s[school_qualifier..school_end],
+        &s[supplier..supplier_qualifier],
+        &s[supplier_qualifier..supplier_end],
+        &s[wanted..article],
+        &s[article..article_qualifier],
+        &s[article_qualifier..end],
+    ]
+}
+
+// An order's school is its sender.
+pub fn order_key(s: &[u8]) -> [&[u8]; KEY_FIELDS]
+    requires { ⌜ fixedWidth Kind.Order ≤ length (now s) ⌝ }
+    ensures { λ r. ⌜ map now r ≡ fieldsIn Kind.Order (keyFields Kind.Order) (now (s .entry)) ⌝ }
+{
+    key_at(s, SENDER, RECIPIENT, ORDER_REFERENCE)
 }
 
 // A delivery's school is its recipient.
-pub fn goods_key(s: &[u8]) -> [u8; 49]
+pub fn goods_key(s: &[u8]) -> [&[u8]; KEY_FIELDS]
     requires { ⌜ fixedWidth Kind.Goods ≤ length (now s) ⌝ }
-    ensures { λ r. ⌜ r ≡ lineKey Kind.Goods (now (s .entry)) ⌝ }
+    ensures { λ r. ⌜ map now r ≡ fieldsIn Kind.Goods (keyFields Kind.Goods) (now (s .entry)) ⌝ }
 {
-    let mut key = [0u8; 49];
-    paste_at(&mut key, 0, part(s, RECIPIENT, PARTIES_END));
-    paste_at(&mut key, SECOND_PARTY_AT, part(s, SENDER, RECIPIENT));
-    paste_at(&mut key, REFERENCE_AT, part(s, REFERENCE, QUANTITY));
-    key
+    key_at(s, RECIPIENT, SENDER, REFERENCE)
 }
 
 // So is a report's.
-pub fn report_key(s: &[u8]) -> [u8; 49]
+pub fn report_key(s: &[u8]) -> [&[u8]; KEY_FIELDS]
     requires { ⌜ fixedWidth Kind.Report ≤ length (now s) ⌝ }
-    ensures { λ r. ⌜ r ≡ lineKey Kind.Report (now (s .entry)) ⌝ }
+    ensures { λ r. ⌜ map now r ≡ fieldsIn Kind.Report (keyFields Kind.Report) (now (s .entry)) ⌝ }
 {
-    let mut key = [0u8; 49];
-    paste_at(&mut key, 0, part(s, RECIPIENT, PARTIES_END));
-    paste_at(&mut key, SECOND_PARTY_AT, part(s, SENDER, RECIPIENT));
-    paste_at(&mut key, REFERENCE_AT, part(s, REPORT_REFERENCE, MESSAGE));
-    key
+    key_at(s, RECIPIENT, SENDER, REPORT_REFERENCE)
 }
 
 // A slip's key stands in a delivery as it is.

@@ -59,14 +59,14 @@ pub extern "C" fn wq_book(
 
 // The figures of the line with a key.
 #[no_mangle]
-pub extern "C" fn wq_line(
-    school: &[u8],
-    school_qualifier: &[u8],
-    supplier: &[u8],
-    supplier_qualifier: &[u8],
-    reference: &[u8],
-    article: &[u8],
-    article_qualifier: &[u8],
+pub extern "C" fn wq_line<'a>(
+    school: &'a [u8],
+    school_qualifier: &'a [u8],
+    supplier: &'a [u8],
+    supplier_qualifier: &'a [u8],
+    reference: &'a [u8],
+    article: &'a [u8],
+    article_qualifier: &'a [u8],
     lines: &[u8],
     slips: &[u8],
     used: &[usize; 2],

@@ -10,7 +10,9 @@ element-copy-out-find-line : tie.Need-element-copy-out-find-line
 element-copy-out-find-line c = search needs
 
 find-line-requires : tie.Need-find-line-requires
-find-line-requires c κs = lines-stand _ _ _ (c .before .before .before .before .pre)
+find-line-requires c κs =
+    let start = c .before .before .before in
+    (lines-stand _ _ _ (start .pre .0), start .pre .1)
 
 enum-told : tie.Need-enum-told
 enum-told c = search needs
@@ -24,8 +26,8 @@ enum-known-i c = search needs
 read-line-requires : tie.Need-read-line-requires
 read-line-requires c κs =
     let find = c .before .before .before in
-    let start = find .before .before .before .before .before in
-    line-stands _ (start .pre) _ _ (line-search _ _ _ _ (find .find-line .ensures) refl (c .before .i .given .1)) .0
+    let start = find .before .before .before .before in
+    line-stands _ (start .pre .0) _ _ (line-search _ _ _ _ (find .find-line .ensures) refl (c .before .i .given .1)) .0
 
 done-requires : tie.Need-done-requires
 done-requires c κs = search needs

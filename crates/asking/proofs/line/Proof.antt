@@ -29,23 +29,17 @@ returns-2 c =
     let else = then .before .before in
     c .refuse2 .ensures ∙ sym (asked-none _ _ (is-so (else .before .is-sound .ensures) (else .if1 .left)) (is-not (then .before .are-wide .ensures) (then .if2 .taken)))
 
-line-key-requires : tie.Need-line-key-requires
-line-key-requires c κs = is-so (c .before .are-wide .ensures) (c .if2 .left)
-
-slice-aggregate-figures-at : tie.Need-slice-aggregate-figures-at
-slice-aggregate-figures-at c = search needs
-
 figures-at-requires : tie.Need-figures-at-requires
 figures-at-requires c κs =
-    let else = c .before .before .before .before in
-    is-so (else .before .is-sound .ensures) (else .if1 .left)
+    let sound = c .before .before in
+    (is-so (sound .before .is-sound .ensures) (sound .if1 .left), is-so (c .before .are-wide .ensures) (c .if2 .left))
 
 returns-3 : tie.Need-returns-3
 returns-3 c =
-    let made = c .before .before in
-    let wide = made .before in
-    let else = wide .before .before in
-    rw (c .figures-at .ensures, made .line-key .ensures) (sym (asked-found _ _ (is-so (else .before .is-sound .ensures) (else .if1 .left)) (is-so (wide .before .are-wide .ensures) (wide .if2 .left))))
+    let wide = c .before in
+    let sound = wide .before .before in
+    c .figures-at .ensures
+    ∙ sym (asked-found _ _ (is-so (sound .before .is-sound .ensures) (sound .if1 .left)) (is-so (wide .before .are-wide .ensures) (wide .if2 .left)))
 
 pub line-spec : {M : Type 1} → statement M
 line-spec =
@@ -57,7 +51,5 @@ line-spec =
     are-wide-requires
     refuse-requires-2
     returns-2
-    line-key-requires
-    slice-aggregate-figures-at
     figures-at-requires
     returns-3)

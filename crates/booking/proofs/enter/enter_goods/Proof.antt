@@ -2,7 +2,8 @@
 use native.Mathlib.Omega.{arith}
 use Rattle.rules.proofs.Parts.{part-most}
 use Rattle.judging.proofs.Stages.{goods-copies}
-use Rattle.booking.proofs.Entered.{slip-key-width, goods-entered}
+use Rattle.book.proofs.Fields.{slip-key-long}
+use Rattle.booking.proofs.Entered.{goods-entered}
 use borrow.Author.Needs.{needs}
 use Rattle.booking.proofs.enter.enter_goods.Statement.{statement}
 use Rattle.booking.proofs.enter.enter_goods.Tie as tie
@@ -32,7 +33,7 @@ slip-key-requires : tie.Need-slip-key-requires
 slip-key-requires c κs = search needs
 
 write-slip-requires : tie.Need-write-slip-requires
-write-slip-requires c κs = (rw (c .slip-key .ensures) (slip-key-width _ (c .before .before .before .before .before .before .before .before .before .before .before .before .before .before .before .pre .0)), c .before .before .before .before .before .before .before .before .before .before .before .before .before .before .before .pre .2)
+write-slip-requires c κs = (rw (c .slip-key .ensures) (slip-key-long _ (c .before .before .before .before .before .before .before .before .before .before .before .before .before .before .before .pre .0)), c .before .before .before .before .before .before .before .before .before .before .before .before .before .before .before .pre .2)
 
 add-used : tie.Need-add-used
 add-used c = record { fits = omega (arith, c .before .before .before .before .before .before .before .before .before .before .before .before .before .before .before .before .before .before .pre .3) }

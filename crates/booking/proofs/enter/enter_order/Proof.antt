@@ -1,6 +1,10 @@
 -- `booking::enter::enter_order` meets its contract.
+use mathlib.Core.Path.{_∙_, ap}
 use native.Mathlib.Omega.{arith}
+use lib.ListN.{length}
 use Rattle.rules.proofs.Parts.{part-most}
+use Rattle.book.proofs.Fields.{order-key-long}
+use Rattle.judging.proofs.Named.{order-parts}
 use Rattle.judging.proofs.Stages.{order-copies}
 use Rattle.booking.proofs.Entered.{order-entered}
 use borrow.Author.Needs.{needs}
@@ -16,14 +20,17 @@ copies-of-requires c κs = rw (c .part .ensures) (omega (arith, part-most 61 65 
 new-line-requires : tie.Need-new-line-requires
 new-line-requires c κs = search needs
 
-order-key-requires : tie.Need-order-key-requires
-order-key-requires c κs = search needs
+part-requires-2 : tie.Need-part-requires-2
+part-requires-2 c κs = search needs
 
-slice-aggregate-write-new-line : tie.Need-slice-aggregate-write-new-line
-slice-aggregate-write-new-line c = search needs
+part-requires-3 : tie.Need-part-requires-3
+part-requires-3 c κs = search needs
 
 write-new-line-requires : tie.Need-write-new-line-requires
-write-new-line-requires c κs = search needs
+write-new-line-requires c κs =
+    let start = c .before .before .before .before .before .before .before .before .before in
+    let s = start .args .s .now in
+    (ap length (order-parts s (c .before .part2 .ensures) (c .part3 .ensures)) ∙ order-key-long s (start .pre .0), start .pre .1)
 
 element-copy-out-used : tie.Need-element-copy-out-used
 element-copy-out-used c = search needs
@@ -43,10 +50,13 @@ same-length c = search needs
 returns : tie.Need-returns
 returns c =
     let write = c .before .before .before .before in
-    let key = write .before .before .before in
-    let number = key .before .before in
+    let back = write .before in
+    let front = back .before in
+    let new = front .before .before in
+    let number = new .before in
     let copies = order-copies _ (number .copies-of .ensures) (number .before .part .ensures) in
-    rw (c .done .ensures, write .write-new-line .ensures, key .order-key .ensures, key .before .new-line .ensures, copies) (order-entered _ _ _ _ _)
+    let s = number .before .before .before .before .before .args .s .now in
+    rw (c .done .ensures, write .write-new-line .ensures, order-parts s (front .part2 .ensures) (back .part3 .ensures), new .new-line .ensures, copies) (order-entered _ _ _ _ _)
 
 pub enter-order-spec : {M : Type 1} → statement M
 enter-order-spec =
@@ -55,8 +65,8 @@ enter-order-spec =
     part-requires
     copies-of-requires
     new-line-requires
-    order-key-requires
-    slice-aggregate-write-new-line
+    part-requires-2
+    part-requires-3
     write-new-line-requires
     element-copy-out-used
     add-used

@@ -1,7 +1,8 @@
 -- `judging::judge::judge_new_line` meets its contract: 14, then 25 and 15.
 use mathlib.Core.Path.{sym}
+use Rattle.record.specs.declared.layout.Kind.the-variants.{Order}
 use Rattle.book.proofs.Finds.{lines-stand, line-search}
-use Rattle.judging.proofs.Named.{order-school-is}
+use Rattle.judging.proofs.Named.{joined-key, wide-key, order-school-is, order-wide}
 use Rattle.judging.proofs.Stages.{new-exists, new-line}
 use borrow.Author.Needs.{needs}
 use Rattle.judging.proofs.judge.judge_new_line.Statement.{statement}
@@ -13,11 +14,10 @@ order-key-requires c κs = search needs
 element-copy-out-find-line : tie.Need-element-copy-out-find-line
 element-copy-out-find-line c = search needs
 
-slice-aggregate-find-line : tie.Need-slice-aggregate-find-line
-slice-aggregate-find-line c = search needs
-
 find-line-requires : tie.Need-find-line-requires
-find-line-requires c κs = lines-stand _ _ _ (c .before .before .before .before .before .before .pre .0)
+find-line-requires c κs =
+    let start = c .before .before .before .before .before in
+    (lines-stand _ _ _ (start .pre .0), wide-key Order _ (c .before .order-key .ensures) (order-wide _ (start .pre .1)))
 
 enum-told : tie.Need-enum-told
 enum-told c = search needs
@@ -34,14 +34,14 @@ judge-room-requires c κs = search needs
 returns : tie.Need-returns
 returns c =
     let find = c .before .before in
-    sym (new-exists _ _ _ _ _ _ (line-search _ _ _ _ (find .find-line .ensures) (find .before .before .before .order-key .ensures) (c .enum-told .given .1)))
+    sym (new-exists _ _ _ _ _ _ (line-search _ _ _ _ (find .find-line .ensures) (joined-key Order _ (find .before .before .order-key .ensures)) (c .enum-told .given .1)))
 
 returns-2 : tie.Need-returns-2
 returns-2 c =
     let find = c .before .before .before .before in
-    let start = find .before .before .before .before .before .before .before in
+    let start = find .before .before .before .before .before .before in
     rw (c .judge-room .ensures, c .before .part .ensures, ← order-school-is (start .args .s .now))
-    (sym (new-line _ _ _ _ _ (line-search _ _ _ _ (find .find-line .ensures) (find .before .before .before .order-key .ensures) (c .before .before .enum-told2 .given .1))))
+    (sym (new-line _ _ _ _ _ (line-search _ _ _ _ (find .find-line .ensures) (joined-key Order _ (find .before .before .order-key .ensures)) (c .before .before .enum-told2 .given .1))))
 
 pub judge-new-line-spec : {M : Type 1} → statement M
 judge-new-line-spec =
@@ -49,7 +49,6 @@ judge-new-line-spec =
     (tie.spec
     order-key-requires
     element-copy-out-find-line
-    slice-aggregate-find-line
     find-line-requires
     enum-told
     enum-told-2
