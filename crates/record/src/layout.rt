@@ -257,8 +257,8 @@ fn report_field(i: usize) -> Field
     }
 }
 
-// The field with an index.
-pub fn field_of(k: Kind, i: usize) -> Field
+// The field with an index. It has one caller, so that the compiler puts it there.
+fn field_of(k: Kind, i: usize) -> Field
     ensures { λ r. ⌜ r ≡ getD (layout k) i noField ⌝ }
 {
     match k {
@@ -266,6 +266,18 @@ pub fn field_of(k: Kind, i: usize) -> Field
         Kind::Goods => goods_field(i),
         Kind::Closing => closing_field(i),
         Kind::Report => report_field(i),
+    }
+}
+
+// How many bytes it has.
+pub fn size_of(k: Kind, i: usize) -> usize
+    ensures { λ r. ⌜ r ≡ getD (layout k) i noField .size ⌝ }
+{
+    match k {
+        Kind::Order => order_field(i).size,
+        Kind::Goods => goods_field(i).size,
+        Kind::Closing => closing_field(i).size,
+        Kind::Report => report_field(i).size,
     }
 }
 
@@ -277,8 +289,7 @@ pub fn start_of(k: Kind, index: usize) -> usize
     let mut at: usize = 0;
     let mut i: usize = 0;
     while (i < index) & (i < count) {
-        let f = field_of(k, i);
-        at += f.size;
+        at += size_of(k, i);
         i += 1;
     }
     at
@@ -319,7 +330,7 @@ fn rest_broken(k: Kind, s: &[u8]) -> usize
         let f = field_of(k, i);
         let rule = f.rule;
         let end = at + f.size;
-        if !keeps_rule(rule, part(s, end, end + 2), part(s, at, end)) {
+        if !keeps_rule(rule, s, end, part(s, at, end)) {
             return i;
         }
         at = end;

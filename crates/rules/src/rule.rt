@@ -1,6 +1,7 @@
 // The field rules as data.
 ghost use mathlib.Core.Path.{_≡_};
-ghost use Prim.Native.Nat.{_≤_};
+ghost use Prim.Native.Nat.{_+_, _^_, _≤_, _<_};
+ghost use lib.Seq.{slice};
 ghost use Rattle.cells.specs.Bytes.{among};
 ghost use Rattle.rules.specs.Day.{isDay};
 ghost use Rattle.rules.specs.Rule.{rowTexts, texts, dayCount, expected, keeps};
@@ -110,9 +111,10 @@ fn is_expected(s: &[u8]) -> bool
             | of_class(Class::Blank, Day::WIDTH, Day::WIDTH, s))
 }
 
-// Whether a field keeps its rule; `next` is the two bytes after it, which only the article's rule asks for.
-pub fn keeps_rule(rule: Rule, next: &[u8], s: &[u8]) -> bool
-    ensures { λ r. ⌜ r ≡ keeps rule (now (next .entry)) (now (s .entry)) ⌝ }
+// Whether a field keeps its rule; the article's rule alone asks for the two bytes after it, so it is told what the field stands in and where it ends.
+pub fn keeps_rule(rule: Rule, whole: &[u8], end: usize, s: &[u8]) -> bool
+    requires { ⌜ end + 2 < 2 ^ 64 ⌝ }
+    ensures { λ r. ⌜ r ≡ keeps rule (slice end (end + 2) (now (whole .entry))) (now (s .entry)) ⌝ }
 {
     match rule {
         Rule::Free => true,
@@ -123,6 +125,6 @@ pub fn keeps_rule(rule: Rule, next: &[u8], s: &[u8]) -> bool
         Rule::DayCount => is_day_count(s),
         Rule::Date => is_day(s),
         Rule::ExpectedDate => is_expected(s),
-        Rule::Article => is_article(next, s),
+        Rule::Article => is_article(part(whole, end, end + 2), s),
     }
 }

@@ -10,17 +10,17 @@ use Rattle.record.specs.declared.layout.Field.{Field}
 use Rattle.record.proofs.Layouts.{field-here}
 use Rattle.writing.specs.Write.{fieldHolding}
 
--- the field with index i, where left bytes stand before the byte from that field on
-module _ (fs : List Field) (i : ℕ) (h : i < length fs) (f : Field) (e : f ≡ getD fs i noField) (left : ℕ) where
+-- the field with index i, of a size, where left bytes stand before the byte from that field on
+module _ (fs : List Field) (i : ℕ) (h : i < length fs) (size : ℕ) (e : size ≡ getD fs i noField .size) (left : ℕ) where
   -- the byte stands in it
-  pub held-here : left < f .size → fieldHolding (drop i fs) left ≡ 0
+  pub held-here : left < size → fieldHolding (drop i fs) left ≡ 0
   unfolding fieldHolding
-  held-here q = rw (field-here fs i h f e, lt-ltb left (f .size) q)
+  held-here q = rw (field-here fs i h (getD fs i noField) refl, ← e, lt-ltb left size q)
 
   -- the byte stands after it
-  pub held-after : f .size ≤ left → fieldHolding (drop i fs) left ≡ suc (fieldHolding (drop (i + 1) fs) (left - f .size))
+  pub held-after : size ≤ left → fieldHolding (drop i fs) left ≡ suc (fieldHolding (drop (i + 1) fs) (left - size))
   unfolding fieldHolding
-  held-after q = rw (field-here fs i h f e, le-ltb left (f .size) q)
+  held-after q = rw (field-here fs i h (getD fs i noField) refl, ← e, le-ltb left size q)
 
 -- past the last field nothing is left to count
 pub held-past : (fs : List Field) (i left : ℕ) → length fs ≤ i → fieldHolding (drop i fs) left ≡ 0

@@ -8,10 +8,10 @@ use crate::answer::Verdict;
 use record::layout::Kind;
 use record::layout::Kinded;
 use record::layout::field_count;
-use record::layout::field_of;
 use record::layout::first_broken;
 use record::layout::fixed_width;
 use record::layout::kind_of;
+use record::layout::size_of;
 use rules::class::allowed_run;
 
 // The index of the field that the byte at a place stands in, or the number of fields past them.
@@ -22,8 +22,7 @@ pub fn field_holding(k: Kind, place: usize) -> usize
     let mut left = place;
     let mut i: usize = 0;
     while i < count {
-        let f = field_of(k, i);
-        let size = f.size;
+        let size = size_of(k, i);
         if left < size {
             return i;
         }

@@ -30,12 +30,12 @@ total-at c = total-here _ (c .before .before .loop .i) (in-layout (c .before)) (
 
 -- it is judged where it stands
 judged-at : (c : tie.After-keeps-rule Inv-loop μ-loop)
-    → let d = c .before .before .before .before in
+    → let d = c .before .before .before in
     let f = d .field-of .result in
     let at = d .before .before .loop .at in
     let s = d .before .before .before .before .before .args .s .now in
     c .keeps-rule .result ≡ keeps (f .rule) (slice (at + f .size) (at + f .size + 2) s) (slice at (at + f .size) s)
-judged-at c = c .keeps-rule .ensures ∙ rw (c .before .before .part .ensures, c .before .part2 .ensures)
+judged-at c = c .keeps-rule .ensures ∙ rw (c .before .part .ensures)
 
 field-count-requires : tie.Need-field-count-requires Inv-loop μ-loop
 field-count-requires c κs = search needs
@@ -51,34 +51,28 @@ field-of-requires c κs = search needs
 add-end : tie.Need-add-end Inv-loop μ-loop
 add-end c = omega (arith, total-at (c .before))
 
-add-part : tie.Need-add-part Inv-loop μ-loop
-add-part c = omega (arith, total-at (c .before))
-
 part-requires : tie.Need-part-requires Inv-loop μ-loop
 part-requires c κs = search needs
 
-part-requires-2 : tie.Need-part-requires-2 Inv-loop μ-loop
-part-requires-2 c κs = search needs
-
 keeps-rule-requires : tie.Need-keeps-rule-requires Inv-loop μ-loop
-keeps-rule-requires c κs = search needs
+keeps-rule-requires c κs = omega (arith, total-at (c .before .before))
 
 returns : tie.Need-returns Inv-loop μ-loop
 returns c =
-    let d = c .before .before .before .before .before in
+    let d = c .before .before .before .before in
     let l = d .before .before .loop in
     let a = d .before .before .before .before .before .args in
     omega (arith, broken-here (layout (a .k)) (l .i) (in-layout (d .before)) (d .field-of .result) (d .field-of .ensures) (a .s .now) (l .at) (is-not (judged-at (c .before)) (c .if1 .taken)))
 
 add-i : tie.Need-add-i Inv-loop μ-loop
-add-i c = omega (arith, in-layout (c .before .before .before .before .before .before))
+add-i c = omega (arith, in-layout (c .before .before .before .before .before))
 
 loop-less : tie.Need-loop-less Inv-loop μ-loop
-loop-less c = omega (arith, in-layout (c .before .before .before .before .before .before))
+loop-less c = omega (arith, in-layout (c .before .before .before .before .before))
 
 loop-again : tie.Need-loop-again Inv-loop μ-loop
 loop-again c =
-    let d = c .before .before .before .before .before in
+    let d = c .before .before .before .before in
     let l = d .before .before .loop in
     let a = d .before .before .before .before .before .args in
     let m = in-layout (d .before) in
@@ -101,9 +95,7 @@ rest-broken-spec =
     loop-holds
     field-of-requires
     add-end
-    add-part
     part-requires
-    part-requires-2
     keeps-rule-requires
     returns
     add-i

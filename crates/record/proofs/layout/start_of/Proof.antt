@@ -1,5 +1,5 @@
 -- `record::layout::start_of` meets its contract. The invariant: the fields passed end where the field with the index i starts.
-use mathlib.Core.Path.{_≡_, _∙_, sym}
+use mathlib.Core.Path.{_≡_, _∙_, sym, refl}
 use Prim.Native.Nat.{_≤_, _-_, _+_, _<_}
 use native.Mathlib.Omega.{arith}
 use lib.ListN.{length}
@@ -21,12 +21,11 @@ goes-on : (c : tie.In-loop Inv-loop μ-loop)
 goes-on c = below-both _ _ _ (rw (c .before .before .field-count .ensures) at (c .loop-test .taken))
 
 -- and the next field starts behind it
-next-start : (c : tie.After-struct-known Inv-loop μ-loop)
-    → startOf (layout (c .before .before .before .before .before .args .k)) (c .before .before .before .loop .i + 1)
-    ≡ c .before .before .before .loop .at + c .before .field-of .result .size
+next-start : (c : tie.After-size-of Inv-loop μ-loop)
+    → startOf (layout (c .before .before .before .before .args .k)) (c .before .before .loop .i + 1) ≡ c .before .before .loop .at + c .size-of .result
 next-start c =
-    let l = c .before .before .before .loop in
-    rw (l .inv .2) (start-next _ (l .i) (goes-on (c .before .before) .1) (c .before .field-of .result) (c .before .field-of .ensures))
+    let l = c .before .before .loop in
+    rw (l .inv .2, c .size-of .ensures) (start-next _ (l .i) (goes-on (c .before) .1) _ refl)
 
 field-count-requires : tie.Need-field-count-requires Inv-loop μ-loop
 field-count-requires c κs = search needs
@@ -34,23 +33,23 @@ field-count-requires c κs = search needs
 loop-holds : tie.Need-loop-holds Inv-loop μ-loop
 loop-holds c = (search needs, search needs, sym (start-first _))
 
-field-of-requires : tie.Need-field-of-requires Inv-loop μ-loop
-field-of-requires c κs = search needs
+size-of-requires : tie.Need-size-of-requires Inv-loop μ-loop
+size-of-requires c κs = search needs
 
 add-at : tie.Need-add-at Inv-loop μ-loop
 add-at c =
-    let k = c .before .before .before .before .before .args .k in
-    omega (arith, next-start c, start-most (layout k) (c .before .before .before .loop .i + 1), total-most k)
+    let k = c .before .before .before .before .args .k in
+    omega (arith, next-start c, start-most (layout k) (c .before .before .loop .i + 1), total-most k)
 
 add-i : tie.Need-add-i Inv-loop μ-loop
-add-i c = omega (arith, goes-on (c .before .before))
+add-i c = omega (arith, goes-on (c .before))
 
 loop-less : tie.Need-loop-less Inv-loop μ-loop
-loop-less c = omega (arith, goes-on (c .before .before))
+loop-less c = omega (arith, goes-on (c .before))
 
 loop-again : tie.Need-loop-again Inv-loop μ-loop
 loop-again c =
-    let g = goes-on (c .before .before) in
+    let g = goes-on (c .before) in
     (omega arith, omega arith, sym (next-start c))
 
 returns : tie.Need-returns Inv-loop μ-loop
@@ -66,7 +65,7 @@ start-of-spec =
     μ-loop
     field-count-requires
     loop-holds
-    field-of-requires
+    size-of-requires
     add-at
     add-i
     loop-less

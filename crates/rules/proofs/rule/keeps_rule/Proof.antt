@@ -52,6 +52,12 @@ is-expected-requires c κs = search needs
 enum-told-5 : tie.Need-enum-told-5
 enum-told-5 c = search needs
 
+add-part : tie.Need-add-part
+add-part c = search needs
+
+part-requires : tie.Need-part-requires
+part-requires c κs = search needs
+
 is-article-requires : tie.Need-is-article-requires
 is-article-requires c κs = search needs
 
@@ -89,7 +95,7 @@ returns-8 c = rw (c .before .enum-told4 .given .1) (c .is-expected .ensures)
 
 returns-9 : tie.Need-returns-9
 unfolding keeps
-returns-9 c = rw (c .before .enum-told5 .given .1) (c .is-article .ensures)
+returns-9 c = rw (c .before .before .enum-told5 .given .1, ← c .before .part .ensures) (c .is-article .ensures)
 
 pub keeps-rule-spec : {M : Type 1} → statement M
 keeps-rule-spec =
@@ -111,6 +117,8 @@ keeps-rule-spec =
     enum-told-4
     is-expected-requires
     enum-told-5
+    add-part
+    part-requires
     is-article-requires
     returns
     returns-2

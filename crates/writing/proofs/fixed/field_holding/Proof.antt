@@ -26,14 +26,14 @@ field-count-requires c κs = search needs
 loop-holds : tie.Need-loop-holds Inv-loop μ-loop
 loop-holds c = (omega arith, omega arith)
 
-field-of-requires : tie.Need-field-of-requires Inv-loop μ-loop
-field-of-requires c κs = search needs
+size-of-requires : tie.Need-size-of-requires Inv-loop μ-loop
+size-of-requires c κs = search needs
 
 returns : tie.Need-returns Inv-loop μ-loop
 returns c =
     let d = c .before .before in
     let l = d .before .loop in
-    omega (arith, held-here (layout (d .before .before .before .args .k)) (l .i) (in-layout d) (c .before .field-of .result) (c .before .field-of .ensures) (l .left) (c .if1 .taken))
+    omega (arith, held-here (layout (d .before .before .before .args .k)) (l .i) (in-layout d) _ (c .before .size-of .ensures) (l .left) (c .if1 .taken))
 
 add-i : tie.Need-add-i Inv-loop μ-loop
 add-i c = omega (arith, in-layout (c .before .before))
@@ -45,7 +45,7 @@ loop-again : tie.Need-loop-again Inv-loop μ-loop
 loop-again c =
     let d = c .before .before in
     let l = d .before .loop in
-    let n = held-after (layout (d .before .before .before .args .k)) (l .i) (in-layout d) (c .before .field-of .result) (c .before .field-of .ensures) (l .left) (c .if1 .left) in
+    let n = held-after (layout (d .before .before .before .args .k)) (l .i) (in-layout d) _ (c .before .size-of .ensures) (l .left) (c .if1 .left) in
     (omega (arith, in-layout d), omega arith)
 
 returns-2 : tie.Need-returns-2 Inv-loop μ-loop
@@ -62,7 +62,7 @@ field-holding-spec =
     μ-loop
     field-count-requires
     loop-holds
-    field-of-requires
+    size-of-requires
     returns
     add-i
     loop-less
