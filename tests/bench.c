@@ -81,12 +81,16 @@ struct task {
 /* Makes a task's calls so many times; gives 0 where every answer is the expected one. */
 typedef uint64_t run(const struct side *side, const struct task *task, size_t rounds);
 
-/* A row of the table: nanoseconds a call of each side, the least so far (0 is none yet), and
-   the rounds that make a repetition long enough. */
+/* A row of the table: what it times, nanoseconds a call of each side, the least so far (0 is
+   none yet), and the rounds that make a repetition long enough. */
 struct row {
     const char *call;
     char input[TEXT];
-    const struct row *smallest; /* the row of the smallest book; null without a book */
+    run *calls;
+    struct task task;
+    size_t lines; /* of its book; 0 without one, and then the next two are null */
+    struct task (*task_in_book)(void);
+    const struct row *smallest; /* the row of the smallest book */
     double nanoseconds[SIDES];
     size_t rounds;
 };
@@ -233,16 +237,16 @@ static uint64_t now(void)
     return (uint64_t)time.tv_sec * 1000000000u + (uint64_t)time.tv_nsec;
 }
 
-/* Times the task so often on each side and keeps the shortest time in the row; where a
-   repetition is too short, all start over with twice the rounds. */
-static void measure(run *calls, const struct task *task, struct row *row)
+/* Times the row so often on each side and keeps the shortest time in it; where a repetition
+   is too short, all start over with twice the rounds. */
+static void measure(struct row *row)
 {
     uint64_t shortest[SIDES] = {UINT64_MAX, UINT64_MAX};
     size_t rounds = row->rounds > 0 ? row->rounds : 1;
     for (size_t turn = 0; turn < SIDES * REPETITIONS; turn++) {
         size_t side = (turn + turn / SIDES) % SIDES;
         uint64_t begun = now();
-        uint64_t wrong = calls(&sides[side], task, rounds);
+        uint64_t wrong = row->calls(&sides[side], &row->task, rounds);
         uint64_t spent = now() - begun;
         insist(wrong == 0, "a timed call gave another answer");
         if (spent < shortest[side])
@@ -255,21 +259,10 @@ static void measure(run *calls, const struct task *task, struct row *row)
     }
     row->rounds = rounds;
     for (size_t side = 0; side < SIDES; side++) {
-        double each = (double)shortest[side] / (double)rounds / (double)task->count;
+        double each = (double)shortest[side] / (double)rounds / (double)row->task.count;
         if (row->nanoseconds[side] == 0 || each < row->nanoseconds[side])
             row->nanoseconds[side] = each;
     }
-}
-
-/* Times the next row of this pass. */
-static void time_row(run *calls, const struct task *task, const char *call, const char *input,
-                     const struct row *smallest)
-{
-    struct row *row = &rows[row_count++];
-    row->call = call;
-    snprintf(row->input, sizeof row->input, "%s", input);
-    row->smallest = smallest;
-    measure(calls, task, row);
 }
 
 static double ratio_of(const struct row *row)
@@ -352,22 +345,6 @@ static size_t take_records(const uint8_t *bytes, size_t length)
         }
     insist(count > 0 && begin == length, "the file is not records that end with CR LF");
     return count;
-}
-
-/* All records in turn, then each alone. */
-static void time_records(run *calls, const char *call, size_t count)
-{
-    char input[TEXT];
-    struct task task = {records, count, "", {0, 0, 0, 0, 0, 0, 0}};
-    snprintf(input, sizeof input, "all %zu records in turn", count);
-    time_row(calls, &task, call, input, NULL);
-    task.count = 1;
-    for (size_t i = 0; i < count; i++) {
-        task.records = &records[i];
-        snprintf(input, sizeof input, "record %zu: %.4s, %zu bytes, %" PRIu64 " fields", i + 1,
-                 (const char *)records[i].bytes, records[i].length, records[i].checked.fields);
-        time_row(calls, &task, call, input, NULL);
-    }
 }
 
 /* --- Books --- */
@@ -514,6 +491,33 @@ static struct task save_task(void)
     return task;
 }
 
+/* --- The rows --- */
+
+static struct row *add_row(const char *call, run *calls)
+{
+    struct row *row = &rows[row_count++];
+    row->call = call;
+    row->calls = calls;
+    row->task.count = 1;
+    return row;
+}
+
+/* All records in turn, then each alone. */
+static void add_records(const char *call, run *calls, size_t count)
+{
+    struct row *row = add_row(call, calls);
+    row->task.records = records;
+    row->task.count = count;
+    snprintf(row->input, sizeof row->input, "all %zu records in turn", count);
+    for (size_t i = 0; i < count; i++) {
+        row = add_row(call, calls);
+        row->task.records = &records[i];
+        snprintf(row->input, sizeof row->input, "record %zu: %.4s, %zu bytes, %" PRIu64
+                 " fields", i + 1, (const char *)records[i].bytes, records[i].length,
+                 records[i].checked.fields);
+    }
+}
+
 /* The rows of a book, each in books of all sizes. */
 static const struct { const char *call; run *calls; struct task (*task)(void); }
 book_rows[BOOK_ROWS] = {
@@ -526,29 +530,64 @@ book_rows[BOOK_ROWS] = {
     {"load", run_load, save_task}
 };
 
-static void time_books(size_t which)
+static void add_books(size_t which)
 {
-    char input[TEXT];
     const struct row *smallest = &rows[row_count];
     for (size_t i = 0; i < SIZES; i++) {
-        stock(sizes[i]);
-        struct task task = book_rows[which].task();
-        snprintf(input, sizeof input, "%zu lines, %zu slips", sizes[i], 2 * sizes[i]);
-        time_row(book_rows[which].calls, &task, book_rows[which].call, input, smallest);
-        insist(memcmp(lent.used, kept.used, sizeof kept.used) == 0
-               && memcmp(lent.lines, kept.lines, kept.used[0] * LINE) == 0
-               && memcmp(lent.slips, kept.slips, kept.used[1] * SLIP) == 0,
-               "the timed calls changed the book");
+        struct row *row = add_row(book_rows[which].call, book_rows[which].calls);
+        row->lines = sizes[i];
+        row->task_in_book = book_rows[which].task;
+        row->smallest = smallest;
+        snprintf(row->input, sizeof row->input, "%zu lines, %zu slips", sizes[i],
+                 2 * sizes[i]);
     }
 }
 
-static void time_accounts(void)
+static void add_account(const char *call, const char *input, const char *account,
+                        uint64_t answer)
 {
-    const struct task found = {NULL, 1, "43210     VD", {ANSWER_DONE, 0, 0, 0, 0, 0, 0}};
-    const struct task absent = {NULL, 1, "43201     IB",
-                                {ANSWER_NOT_ON_ROSTER, 0, 0, 0, 0, 0, 0}};
-    time_row(run_account, &found, "account, found", "the middle of 30 schools", NULL);
-    time_row(run_account, &absent, "account, not on the roster (24)", "64 schools", NULL);
+    struct row *row = add_row(call, run_account);
+    snprintf(row->input, sizeof row->input, "%s", input);
+    snprintf(row->task.text, sizeof row->task.text, "%s", account);
+    row->task.booked.answer = answer;
+}
+
+static void add_rows(size_t taken)
+{
+    add_records("check", run_check, taken);
+    add_records("write", run_write, taken);
+    for (size_t i = 0; i < BOOK_ROWS; i++)
+        add_books(i);
+    add_account("account, found", "the middle of 30 schools", "43210     VD", ANSWER_DONE);
+    add_account("account, not on the roster (24)", "64 schools", "43201     IB",
+                ANSWER_NOT_ON_ROSTER);
+}
+
+/* The row's book, and its call there. */
+static void set_up(struct row *row)
+{
+    if (row->lines == 0)
+        return;
+    stock(row->lines);
+    row->task = row->task_in_book();
+}
+
+static void insist_unchanged(void)
+{
+    insist(memcmp(lent.used, kept.used, sizeof kept.used) == 0
+           && memcmp(lent.lines, kept.lines, kept.used[0] * LINE) == 0
+           && memcmp(lent.slips, kept.slips, kept.used[1] * SLIP) == 0,
+           "the timed calls changed the book");
+}
+
+static void time_rows(void)
+{
+    for (size_t pass = 0; pass < PASSES; pass++)
+        for (struct row *row = rows; row < rows + row_count; row++) {
+            set_up(row);
+            measure(row);
+            insist_unchanged();
+        }
 }
 
 int main(int count, char **arguments)
@@ -556,15 +595,8 @@ int main(int count, char **arguments)
     static uint8_t bytes[FILE_ROOM];
     insist(count == 2, "usage: bench FILE");
     fill_roster();
-    size_t taken = take_records(bytes, read_file(arguments[1], bytes));
-    for (size_t pass = 0; pass < PASSES; pass++) {
-        row_count = 0;
-        time_records(run_check, "check", taken);
-        time_records(run_write, "write", taken);
-        for (size_t i = 0; i < BOOK_ROWS; i++)
-            time_books(i);
-        time_accounts();
-    }
+    add_rows(take_records(bytes, read_file(arguments[1], bytes)));
+    time_rows();
     print_table();
     return 0;
 }
