@@ -20,19 +20,41 @@ enum {
     PASSES = 10, REPETITIONS = 4, LEAST_NANOSECONDS = 2000000,
     MOST_RECORDS = 64, FILE_ROOM = 65536, LONGEST = 1024, FULL_TABLE = 192, TEXT = 128,
     ORDER_LENGTH = 67, DELIVERY_LENGTH = 108, REPORT_LENGTH = 79,
-    ADDRESS = 10, QUALIFIER = 2, REFERENCE_WIDTH = 10, ARTICLE = 13,
+    ADDRESS = 10, QUALIFIER = 2, NAME = 10, ARTICLE = 13,
     SUPPLIER_PLACE = ADDRESS + QUALIFIER, REFERENCE_PLACE = 2 * SUPPLIER_PLACE,
-    ARTICLE_PLACE = REFERENCE_PLACE + REFERENCE_WIDTH,
+    ARTICLE_PLACE = REFERENCE_PLACE + NAME,
     LINE = 56, SLIP = 50, SAVED_LINE = 53, SAVED_SLIP = 51, SAVED_END = 5,
-    SCHOOLS = 30, MOST_SCHOOLS = 64,
+    SCHOOLS = 30, MIDDLE = SCHOOLS / 2, MOST_SCHOOLS = 64,
     MOST_LINES = 512, MOST_SLIPS = 2 * MOST_LINES, POSITIONS_ON_A_SLIP = 8,
     SAVE_ROOM = MOST_LINES * SAVED_LINE + MOST_SLIPS * SAVED_SLIP + SAVED_END,
     ANSWER_DONE = 0, ANSWER_REPEATED = 17, ANSWER_NOT_ON_ROSTER = 24
 };
 
 static const size_t sizes[] = {10, 100, 256, MOST_LINES};
-enum { SIZES = sizeof sizes / sizeof sizes[0], BOOK_ROWS = 7, ACCOUNT_ROWS = 2,
-       MOST_ROWS = 2 * (1 + MOST_RECORDS) + BOOK_ROWS * SIZES + ACCOUNT_ROWS };
+enum { SIZES = sizeof sizes / sizeof sizes[0], BOOK_ROWS = 7, KEY_ROWS = 5, ACCOUNT_ROWS = 2 };
+
+/* How a number becomes a name of ten bytes: a front that all names share, then its last
+   digits in the signs given, then blanks. */
+struct naming { const char *front, *signs; size_t digits; };
+
+/* A kind of book: which schools of the roster order in turn, and the names that they use. */
+struct book_kind {
+    const char *name; /* in the table, behind the book's size */
+    size_t rows; /* of book_rows, from the first on */
+    size_t first_school, schools;
+    struct naming references, slip_numbers;
+};
+#define TEN_SIGNS "0123456789"
+#define MANY_SIGNS TEN_SIGNS "ABCDEFGHIJKLMNOPQRSTUVWXYZabcdefghijklmnopqrstuvwxyz-_"
+static const struct book_kind book_kinds[] = {
+    {"", BOOK_ROWS, MIDDLE, 1, {"R", TEN_SIGNS, 6}, {"70", TEN_SIGNS, 6}},
+    {", thirty schools with the same references", KEY_ROWS, 0, SCHOOLS,
+     {"R", TEN_SIGNS, 6}, {"70", TEN_SIGNS, 6}},
+    {", references that differ in the last bytes", KEY_ROWS, MIDDLE, 1,
+     {"KLASSE8-", MANY_SIGNS, 2}, {"LS-2024-", MANY_SIGNS, 2}}
+};
+enum { BOOK_KINDS = sizeof book_kinds / sizeof book_kinds[0],
+       MOST_ROWS = 2 * (1 + MOST_RECORDS) + BOOK_KINDS * BOOK_ROWS * SIZES + ACCOUNT_ROWS };
 
 /* The calls of one side. */
 enum { LIBRARY, REFERENCE, SIDES };
@@ -88,8 +110,9 @@ struct row {
     char input[TEXT];
     run *calls;
     struct task task;
-    size_t lines; /* of its book; 0 without one, and then the next two are null */
-    struct task (*task_in_book)(void);
+    size_t lines; /* of its book; 0 without one, and then the next three are null */
+    const struct book_kind *kind;
+    struct task (*task_in_book)(const struct book_kind *);
     const struct row *smallest; /* the row of the smallest book */
     double nanoseconds[SIDES];
     size_t rounds;
@@ -175,7 +198,7 @@ static wq_booked last_line(const struct side *side)
     const uint8_t *supplier = school + SUPPLIER_PLACE, *article = school + ARTICLE_PLACE;
     return side->line(school, ADDRESS, school + ADDRESS, QUALIFIER,
                       supplier, ADDRESS, supplier + ADDRESS, QUALIFIER,
-                      school + REFERENCE_PLACE, REFERENCE_WIDTH,
+                      school + REFERENCE_PLACE, NAME,
                       article, ARTICLE, article + ARTICLE, QUALIFIER,
                       lent.lines, lent.lines_length, lent.slips, lent.slips_length, lent.used);
 }
@@ -355,31 +378,65 @@ static void fill_roster(void)
 {
     char text[TEXT];
     for (size_t i = 0; i < MOST_SCHOOLS; i++) {
-        snprintf(text, sizeof text, "%05zu     VD", 43210 - SCHOOLS / 2 + i);
+        snprintf(text, sizeof text, "%05zu     VD", 43210 - MIDDLE + i);
         memcpy(roster[i].address, text, ADDRESS);
         memcpy(roster[i].qualifier, text + ADDRESS, QUALIFIER);
         roster[i].ceiling = WQ_HIGHEST_CEILING;
     }
 }
 
-/* One school, one supplier: keys differ late, as at a desk. */
-static void order_text(char *text, size_t line)
+static void make_name(char *name, const struct naming *naming, size_t number)
 {
-    snprintf(text, TEXT, "B10143210     VD24000     VD20240219R%06zu   9783442756841EN"
-             "0010ST*9999", line);
+    size_t front = strlen(naming->front), signs = strlen(naming->signs);
+    memset(name, ' ', NAME);
+    memcpy(name, naming->front, front);
+    for (size_t i = naming->digits; i > 0; i--, number /= signs)
+        name[front + i - 1] = naming->signs[number % signs];
+    name[NAME] = '\0';
 }
 
-static void delivery_text(char *text, size_t line, size_t slip)
+/* The school of a line, as it stands in a record. */
+static void make_school(char *text, const struct book_kind *kind, size_t line)
 {
-    snprintf(text, TEXT, "L10124000     VD43210     VD20240226%08zu  %04zuR%06zu   "
-             "9783442756841EN0004000000000129500LPEUR003000001*9999",
-             70000000 + slip / POSITIONS_ON_A_SLIP, 1 + slip % POSITIONS_ON_A_SLIP, line);
+    const wq_school *school = &roster[kind->first_school + line % kind->schools];
+    memcpy(text, school->address, ADDRESS);
+    memcpy(text + ADDRESS, school->qualifier, QUALIFIER);
+    text[ADDRESS + QUALIFIER] = '\0';
 }
 
-static void report_text(char *text, size_t line)
+/* The schools take turns, and each uses all references; one supplier, one article. */
+static void make_reference(char *name, const struct book_kind *kind, size_t line)
 {
-    snprintf(text, TEXT, "M10124000     VD43210     VD70012345  R%06zu   9783442756841EN"
-             "010N        0000*9999", line);
+    make_name(name, &kind->references, line / kind->schools);
+}
+
+static void order_text(char *text, const struct book_kind *kind, size_t line)
+{
+    char school[ADDRESS + QUALIFIER + 1], reference[NAME + 1];
+    make_school(school, kind, line);
+    make_reference(reference, kind, line);
+    snprintf(text, TEXT, "B101%s24000     VD20240219%s9783442756841EN0010ST*9999", school,
+             reference);
+}
+
+static void delivery_text(char *text, const struct book_kind *kind, size_t line, size_t slip)
+{
+    char school[ADDRESS + QUALIFIER + 1], reference[NAME + 1], slip_number[NAME + 1];
+    make_school(school, kind, line);
+    make_reference(reference, kind, line);
+    make_name(slip_number, &kind->slip_numbers, slip / POSITIONS_ON_A_SLIP);
+    snprintf(text, TEXT, "L10124000     VD%s20240226%s%04zu%s9783442756841EN0004"
+             "000000000129500LPEUR003000001*9999", school, slip_number,
+             1 + slip % POSITIONS_ON_A_SLIP, reference);
+}
+
+static void report_text(char *text, const struct book_kind *kind, size_t line)
+{
+    char school[ADDRESS + QUALIFIER + 1], reference[NAME + 1];
+    make_school(school, kind, line);
+    make_reference(reference, kind, line);
+    snprintf(text, TEXT, "M10124000     VD%s70012345  %s9783442756841EN010N        0000*9999",
+             school, reference);
 }
 
 static wq_booked book_into(struct book *book, const struct side *side, const char *text)
@@ -391,19 +448,19 @@ static wq_booked book_into(struct book *book, const struct side *side, const cha
 
 /* A book made by bookings: all lines but one, two slips on each, one slip more on the last;
    one entry of each room stays free. */
-static void stock(size_t lines)
+static void stock(const struct book_kind *kind, size_t lines)
 {
     char text[TEXT];
     memset(&kept, 0, sizeof kept);
     kept.lines_length = lines * LINE;
     kept.slips_length = 2 * lines * SLIP;
     for (size_t line = 0; line + 1 < lines; line++) {
-        order_text(text, line);
+        order_text(text, kind, line);
         insist(book_into(&kept, &sides[REFERENCE], text).answer == ANSWER_DONE, "no order");
     }
     for (size_t slip = 0; slip + 1 < 2 * lines; slip++) {
         size_t line = slip / 2 < lines - 1 ? slip / 2 : lines - 2;
-        delivery_text(text, line, slip);
+        delivery_text(text, kind, line, slip);
         insist(book_into(&kept, &sides[REFERENCE], text).answer == ANSWER_DONE, "no delivery");
     }
     insist(kept.used[0] == lines - 1 && kept.used[1] == 2 * lines - 1, "the book's counts");
@@ -444,49 +501,51 @@ static void expect(struct task *task, uint64_t answer)
            "the sides leave different books");
 }
 
-static struct task delivery_task(void)
+static struct task delivery_task(const struct book_kind *kind)
 {
     struct task task = {NULL, 1, "", {0, 0, 0, 0, 0, 0, 0}};
-    delivery_text(task.text, kept.used[0] - 1, kept.used[1]);
+    delivery_text(task.text, kind, kept.used[0] - 1, kept.used[1]);
     expect(&task, ANSWER_DONE);
     return task;
 }
 
-static struct task repeated_task(void)
+static struct task repeated_task(const struct book_kind *kind)
 {
     struct task task = {NULL, 1, "", {0, 0, 0, 0, 0, 0, 0}};
-    delivery_text(task.text, kept.used[0] - 1, kept.used[1] - 1);
+    delivery_text(task.text, kind, kept.used[0] - 1, kept.used[1] - 1);
     expect(&task, ANSWER_REPEATED);
     return task;
 }
 
-static struct task order_task(void)
+static struct task order_task(const struct book_kind *kind)
 {
     struct task task = {NULL, 1, "", {0, 0, 0, 0, 0, 0, 0}};
-    order_text(task.text, kept.used[0]);
+    order_text(task.text, kind, kept.used[0]);
     expect(&task, ANSWER_DONE);
     return task;
 }
 
-static struct task report_task(void)
+static struct task report_task(const struct book_kind *kind)
 {
     struct task task = {NULL, 1, "", {0, 0, 0, 0, 0, 0, 0}};
-    report_text(task.text, kept.used[0] - 1);
+    report_text(task.text, kind, kept.used[0] - 1);
     expect(&task, ANSWER_DONE);
     return task;
 }
 
-static struct task line_task(void)
+static struct task line_task(const struct book_kind *kind)
 {
     struct task task = {NULL, 1, "", {0, 0, 0, 0, 0, 0, 0}};
+    (void)kind;
     task.booked = last_line(&sides[REFERENCE]);
     insist(task.booked.answer == ANSWER_DONE, "the last line has no figures");
     return task;
 }
 
-static struct task save_task(void)
+static struct task save_task(const struct book_kind *kind)
 {
     struct task task = {NULL, 1, "", {0, 0, 0, 0, 0, 0, 0}};
+    (void)kind;
     agree_on_saves();
     return task;
 }
@@ -518,9 +577,12 @@ static void add_records(const char *call, run *calls, size_t count)
     }
 }
 
-/* The rows of a book, each in books of all sizes. */
-static const struct { const char *call; run *calls; struct task (*task)(void); }
-book_rows[BOOK_ROWS] = {
+/* The rows of a book, each in books of all sizes; those that look for a key come first. */
+static const struct {
+    const char *call;
+    run *calls;
+    struct task (*task)(const struct book_kind *);
+} book_rows[BOOK_ROWS] = {
     {"book, delivery accepted", run_book, delivery_task},
     {"book, delivery repeated (17)", run_book, repeated_task},
     {"book, order accepted", run_book, order_task},
@@ -530,16 +592,17 @@ book_rows[BOOK_ROWS] = {
     {"load", run_load, save_task}
 };
 
-static void add_books(size_t which)
+static void add_books(const struct book_kind *kind, size_t which)
 {
     const struct row *smallest = &rows[row_count];
     for (size_t i = 0; i < SIZES; i++) {
         struct row *row = add_row(book_rows[which].call, book_rows[which].calls);
         row->lines = sizes[i];
+        row->kind = kind;
         row->task_in_book = book_rows[which].task;
         row->smallest = smallest;
-        snprintf(row->input, sizeof row->input, "%zu lines, %zu slips", sizes[i],
-                 2 * sizes[i]);
+        snprintf(row->input, sizeof row->input, "%zu lines, %zu slips%s", sizes[i],
+                 2 * sizes[i], kind->name);
     }
 }
 
@@ -556,8 +619,9 @@ static void add_rows(size_t taken)
 {
     add_records("check", run_check, taken);
     add_records("write", run_write, taken);
-    for (size_t i = 0; i < BOOK_ROWS; i++)
-        add_books(i);
+    for (const struct book_kind *kind = book_kinds; kind < book_kinds + BOOK_KINDS; kind++)
+        for (size_t i = 0; i < kind->rows; i++)
+            add_books(kind, i);
     add_account("account, found", "the middle of 30 schools", "43210     VD", ANSWER_DONE);
     add_account("account, not on the roster (24)", "64 schools", "43201     IB",
                 ANSWER_NOT_ON_ROSTER);
@@ -568,8 +632,8 @@ static void set_up(struct row *row)
 {
     if (row->lines == 0)
         return;
-    stock(row->lines);
-    row->task = row->task_in_book();
+    stock(row->kind, row->lines);
+    row->task = row->task_in_book(row->kind);
 }
 
 static void insist_unchanged(void)
