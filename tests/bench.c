@@ -1,6 +1,10 @@
 /* The library's speed beside that of the reference, call by call on the same inputs.
-   Usage: bench FILE, where FILE holds records that each end with CR LF. Prints a table in
-   Markdown; its last line is the worst ratio. Fails where the two sides differ.
+   Usage: bench FILE [rows | count ROW SIDE ROUNDS], where FILE holds records that each end
+   with CR LF. Prints a table in Markdown; its last line is the worst ratio. Fails where the
+   two sides differ. With `rows` it prints call and input of each row that can be counted,
+   with `count` it only makes the calls of such a row (from 0) on one side (0 the library,
+   1 the reference) in so many rounds: a counter of instructions takes two runs and their
+   difference, which has no setting up in it (tests/counts.sh).
    The two sides take turns on the same bytes, and the shortest repetition of each counts:
    whatever else the machine does can only lengthen one. All rows are timed in several passes,
    so that a few busy seconds do not fall on every repetition of a row. Time is the thread's
@@ -561,14 +565,14 @@ static struct row *add_row(const char *call, run *calls)
     return row;
 }
 
-/* All records in turn, then each alone. */
-static void add_records(const char *call, run *calls, size_t count)
+/* All records in turn, then each alone where that is wanted too. */
+static void add_records(const char *call, run *calls, size_t count, int alone)
 {
     struct row *row = add_row(call, calls);
     row->task.records = records;
     row->task.count = count;
     snprintf(row->input, sizeof row->input, "all %zu records in turn", count);
-    for (size_t i = 0; i < count; i++) {
+    for (size_t i = 0; alone && i < count; i++) {
         row = add_row(call, calls);
         row->task.records = &records[i];
         snprintf(row->input, sizeof row->input, "record %zu: %.4s, %zu bytes, %" PRIu64
@@ -615,10 +619,10 @@ static void add_account(const char *call, const char *input, const char *account
     row->task.booked.answer = answer;
 }
 
-static void add_rows(size_t taken)
+static void add_rows(size_t taken, int alone)
 {
-    add_records("check", run_check, taken);
-    add_records("write", run_write, taken);
+    add_records("check", run_check, taken, alone);
+    add_records("write", run_write, taken, alone);
     for (const struct book_kind *kind = book_kinds; kind < book_kinds + BOOK_KINDS; kind++)
         for (size_t i = 0; i < kind->rows; i++)
             add_books(kind, i);
@@ -641,7 +645,7 @@ static void insist_unchanged(void)
     insist(memcmp(lent.used, kept.used, sizeof kept.used) == 0
            && memcmp(lent.lines, kept.lines, kept.used[0] * LINE) == 0
            && memcmp(lent.slips, kept.slips, kept.used[1] * SLIP) == 0,
-           "the timed calls changed the book");
+           "the calls changed the book");
 }
 
 static void time_rows(void)
@@ -654,13 +658,47 @@ static void time_rows(void)
         }
 }
 
+static void print_rows(void)
+{
+    for (const struct row *row = rows; row < rows + row_count; row++)
+        printf("%s | %s\n", row->call, row->input);
+}
+
+static size_t number_of(const char *text)
+{
+    char *end;
+    unsigned long number = strtoul(text, &end, 10);
+    insist(*text >= '0' && *text <= '9' && *end == '\0', "not a number");
+    return number;
+}
+
+/* Makes the calls of one row on one side, and nothing more than they need. */
+static void count_row(size_t which, size_t side, size_t rounds)
+{
+    insist(which < row_count && side < SIDES, "no such row or side");
+    struct row *row = &rows[which];
+    set_up(row);
+    insist(row->calls(&sides[side], &row->task, rounds) == 0,
+           "a counted call gave another answer");
+    insist_unchanged();
+}
+
 int main(int count, char **arguments)
 {
     static uint8_t bytes[FILE_ROOM];
-    insist(count == 2, "usage: bench FILE");
+    int timed = count == 2;
+    int listed = count == 3 && strcmp(arguments[2], "rows") == 0;
+    int counted = count == 6 && strcmp(arguments[2], "count") == 0;
+    insist(timed || listed || counted, "usage: bench FILE [rows | count ROW SIDE ROUNDS]");
     fill_roster();
-    add_rows(take_records(bytes, read_file(arguments[1], bytes)));
-    time_rows();
-    print_table();
+    add_rows(take_records(bytes, read_file(arguments[1], bytes)), timed);
+    if (timed) {
+        time_rows();
+        print_table();
+    } else if (listed) {
+        print_rows();
+    } else {
+        count_row(number_of(arguments[3]), number_of(arguments[4]), number_of(arguments[5]));
+    }
     return 0;
 }
