@@ -1,9 +1,9 @@
 # Wizqamul. Two commands do everything, and set up what they need:
 #   make book FILE=examples/day.bwa   books the records of a file into an empty book, one line printed for each
 #   make test                         the whole gate; its last line is `N passed, 0 failed`
-# Besides: make lib, make host, make compare, make bench, make fuzz, make mutants, make clean.
+# Besides: make lib, make host, make compare, make bench, make counts, make fuzz, make mutants, make clean.
 
-.PHONY: book test lib host compare desk-compare desk-fault sanitized header bench fuzz mutants reference-mutants host-mutants tools clean
+.PHONY: book test lib host compare desk-compare desk-fault sanitized header bench counts fuzz mutants reference-mutants host-mutants tools clean
 
 # The library is x86-64 code. On another machine its C programs are built by Debian's cross compiler and run under its emulator.
 ifeq ($(shell uname -m),x86_64)
@@ -12,6 +12,7 @@ RUN =
 PACKAGES = gcc libc6-dev
 MACHINE = x86-64, not emulated
 SANITIZERS = address,undefined
+COUNTER = valgrind --tool=callgrind --callgrind-out-file=/dev/null
 else
 COMPILER = x86_64-linux-gnu-gcc
 EMULATOR = qemu-x86_64
@@ -19,6 +20,8 @@ RUN = $(EMULATOR) -L /usr/x86_64-linux-gnu
 PACKAGES = gcc-x86-64-linux-gnu libc6-dev-amd64-cross qemu-user
 MACHINE = $(shell uname -m), x86-64 emulated
 SANITIZERS = undefined
+PLUGIN = target/c/count.so
+COUNTER = $(RUN) -plugin $(PLUGIN)
 endif
 
 WARNINGS = -std=c99 -Wall -Wextra -pedantic
@@ -83,6 +86,11 @@ bench: target/c/bench
 	@echo "machine: $(MACHINE)"
 	@$(RUN) target/c/bench crates/papers/stdin
 
+# Instructions of the library over those of the independent implementation, which do not move from run to run as times do. Counted by valgrind, where it is installed, or by the emulator.
+counts: target/c/bench $(PLUGIN)
+	@echo "machine: $(MACHINE)"
+	@tests/counts.sh target/c/bench crates/papers/stdin $(COUNTER)
+
 # A part of the comparison with the C side under AddressSanitizer and UBSan, where the compiler has them; under the emulator UBSan alone, since it has not the memory that the other asks for. The driver's own status decides, and all that it said is shown where it fails.
 SANITIZE = -g -fsanitize=$(SANITIZERS) -fno-sanitize-recover=undefined
 SANITIZED_CALLS = 300000
@@ -118,6 +126,9 @@ target/c/fault: tests/fault.c | tools target/c
 
 target/c/bench: tests/bench.c $(REFERENCE) $(HEADERS) $(LIBRARY) | tools target/c
 	@$(COMPILER) $(WARNINGS) -O2 -o $@ tests/bench.c $(REFERENCE) $(LIBRARY)
+
+target/c/count.so: tests/count.c | target/c
+	@cc $(WARNINGS) -O2 -shared -fPIC -o $@ tests/count.c
 
 target/c/wizqamul-host: $(wildcard host/*.c) $(HEADERS) $(LIBRARY) | tools target/c
 	@$(COMPILER) $(WARNINGS) -O2 -Iinclude -o $@ $(wildcard host/*.c) $(LIBRARY)
