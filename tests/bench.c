@@ -41,7 +41,7 @@ enum { SIZES = sizeof sizes / sizeof sizes[0], BOOK_ROWS = 7, KEY_ROWS = 5, ACCO
    digits in the signs given, then blanks. */
 struct naming { const char *front, *signs; size_t digits; };
 
-/* A kind of book: which schools of the roster order in turn, and the names that they use. */
+/* A kind of book: which schools of the roster order, and the names that they use. */
 struct book_kind {
     const char *name; /* in the table, behind the book's size */
     size_t rows; /* of book_rows, from the first on */
@@ -125,6 +125,7 @@ struct row {
 static struct record records[MOST_RECORDS];
 static wq_school roster[MOST_SCHOOLS];
 static struct book kept, lent, loaded;
+static size_t references; /* that each school of the book uses */
 static uint8_t saved[SAVE_ROOM], out[SAVE_ROOM];
 static size_t saved_length;
 static struct row rows[MOST_ROWS];
@@ -399,19 +400,20 @@ static void make_name(char *name, const struct naming *naming, size_t number)
     name[NAME] = '\0';
 }
 
-/* The school of a line, as it stands in a record. */
+/* The school of a line, as it stands in a record. One school after the other uses all
+   references, so that most schools have a line with the reference that is searched. */
 static void make_school(char *text, const struct book_kind *kind, size_t line)
 {
-    const wq_school *school = &roster[kind->first_school + line % kind->schools];
+    const wq_school *school = &roster[kind->first_school + line / references];
     memcpy(text, school->address, ADDRESS);
     memcpy(text + ADDRESS, school->qualifier, QUALIFIER);
     text[ADDRESS + QUALIFIER] = '\0';
 }
 
-/* The schools take turns, and each uses all references; one supplier, one article. */
+/* One supplier, one article. */
 static void make_reference(char *name, const struct book_kind *kind, size_t line)
 {
-    make_name(name, &kind->references, line / kind->schools);
+    make_name(name, &kind->references, line % references);
 }
 
 static void order_text(char *text, const struct book_kind *kind, size_t line)
@@ -456,6 +458,7 @@ static void stock(const struct book_kind *kind, size_t lines)
 {
     char text[TEXT];
     memset(&kept, 0, sizeof kept);
+    references = (lines + kind->schools - 1) / kind->schools;
     kept.lines_length = lines * LINE;
     kept.slips_length = 2 * lines * SLIP;
     for (size_t line = 0; line + 1 < lines; line++) {
