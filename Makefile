@@ -86,7 +86,7 @@ bench: target/c/bench
 	@echo "machine: $(MACHINE)"
 	@$(RUN) target/c/bench crates/papers/stdin
 
-# Instructions of the library over those of the independent implementation, which do not move from run to run as times do. Counted by valgrind, where it is installed, or by the emulator.
+# Instructions of the library over those of the independent implementation, which do not move from run to run as times do. Counted by valgrind, where it is installed, or by the emulator with a plugin that the machine's own cc builds.
 counts: target/c/bench $(PLUGIN)
 	@echo "machine: $(MACHINE)"
 	@tests/counts.sh target/c/bench crates/papers/stdin $(COUNTER)

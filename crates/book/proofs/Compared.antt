@@ -9,7 +9,7 @@ use lib.ListN.{length}
 use lib.Seq.{slice}
 use Rattle.cells.specs.Bytes.{same, joined}
 use Rattle.cells.specs.Little.{leBytes}
-use Rattle.cells.proofs.Lists.{same-part, same-parts}
+use Rattle.cells.proofs.Lists.{other-part, same-parts}
 use Rattle.cells.proofs.Numbers.{words-same}
 use Rattle.cells.proofs.Within.{part-within}
 use Rattle.entry.specs.Stored.{lineWidth, slipWidth, slipKeyWidth, keyAt, keyIs, slipKeyAt, slipIs}
@@ -20,7 +20,7 @@ pub told-apart : (s key : List ℕ) (at w place x y : ℕ) → place + 8 ≤ w �
     → leBytes 8 y ≡ slice place (place + 8) key → y < 256 ^ 8 → (x ≡ y → ⊥) → same (slice at (at + w) s) key ≡ false
 told-apart s key at w place x y h e k f l d =
     let p : at + (place + 8) ≡ at + place + 8 = omega arith in
-    same-part (slice at (at + w) s) key place (place + 8)
+    other-part (slice at (at + w) s) key place (place + 8)
     (ap₂ same (part-within s at (at + w) place (place + 8) (omega arith) ∙ ap (λ (n : ℕ). slice (at + place) n s) p ∙ sym e) (sym f)
     ∙ words-same 8 x y k l
     ∙ ne-eqb x y d)

@@ -269,7 +269,7 @@ fn field_of(k: Kind, i: usize) -> Field
     }
 }
 
-// How many bytes it has.
+// How many bytes the field with an index has.
 pub fn size_of(k: Kind, i: usize) -> usize
     ensures { λ r. ⌜ r ≡ getD (layout k) i noField .size ⌝ }
 {
