@@ -189,7 +189,7 @@ extern "C" {
 #define WQ_MOST_COPIES 9999      /* most copies in one order or on one slip */
 #define WQ_MOST_ARRIVED 9999999  /* most copies that may arrive on one line */
 
-#define WQ_ADDRESS_WIDTH 10      /* widths of the fields in keys */
+#define WQ_ADDRESS_WIDTH 10      /* widths of the fields in entries */
 #define WQ_QUALIFIER_WIDTH 2
 #define WQ_REFERENCE_WIDTH 10
 #define WQ_ARTICLE_WIDTH 13
@@ -197,9 +197,10 @@ extern "C" {
 #define WQ_SLIP_NUMBER_WIDTH 10
 #define WQ_POSITION_WIDTH 4
 
-/* A line: where each part starts in its entry. The first 49 bytes are its key. */
+/* A line: where each part starts in its entry. The first 34 bytes are its key; the article
+ * and its qualifier, as the order had them, stand after it. */
 #define WQ_LINE_WIDTH 56
-#define WQ_LINE_KEY_WIDTH 49
+#define WQ_LINE_KEY_WIDTH 34
 #define WQ_LINE_SCHOOL 0
 #define WQ_LINE_SCHOOL_QUALIFIER 10
 #define WQ_LINE_SUPPLIER 12
@@ -277,7 +278,8 @@ extern "C" {
 /* ---- Results -------------------------------------------------------------------------- */
 typedef struct { uint64_t answer, place, fields; } wq_checked;
 typedef struct { uint64_t answer, place, length; } wq_written;
-typedef struct { uint64_t answer, place, ordered, filled, still_open, let_go, extra; } wq_booked;
+typedef struct { uint64_t answer, place, ordered, filled, still_open, let_go, extra, agreed; } wq_booked;
+typedef struct { uint64_t answer, place, ordered, filled, still_open, let_go, extra; } wq_told;
 typedef struct { uint64_t answer, place, length; } wq_saved;
 typedef struct { uint64_t answer, place; } wq_loaded;
 typedef struct { uint64_t answer, place, ceiling; } wq_account_told;
@@ -317,12 +319,17 @@ wq_written wq_write(const uint8_t *fixed, size_t fixed_length, const size_t *tab
  * line and 1 to used[0]; a delivery adds a slip and 1 to used[1], and adds its copies to its
  * line's arrived; a report sets its line's mark. Nothing else changes; the record and the
  * roster never do.
+ * A line is found by school, supplier and reference alone, since a supplier may answer with
+ * its own number for a title.
  *   filled      the smaller of ordered and arrived
  *   extra       arrived minus filled
  *   let_go      ordered minus filled where the last mark is N, else 0
  *   still_open  ordered minus filled where the last mark is not N, else 0
+ *   agreed      1 where the record's article and its qualifier are both those that stand in
+ *               the line, byte for byte, else 0; for an order 1
  * A delivery after an N still fills. A record booked twice changes nothing the second time
- * (14, 17), but a report sets its mark each time.
+ * (14, 17), but a report sets its mark each time. An order for a reference that a line has is
+ * 14, and a slip that comes again is 17, whatever the article.
  * An order is refused (25) where the open copies of all used lines of its school and its own
  * quantity together are above the school's ceiling. A report that opens copies again is never
  * refused for it.
@@ -332,10 +339,10 @@ wq_written wq_write(const uint8_t *fixed, size_t fixed_length, const size_t *tab
  * 18, 16, 21, 19; for a report 16. */
 wq_booked wq_book(const uint8_t *record, size_t record_length, const uint8_t *roster, size_t roster_length, uint8_t *lines, size_t lines_length, uint8_t *slips, size_t slips_length, size_t *used);
 
-/* Gives the figures of the line with this key. The seven key fields have the widths above,
+/* Gives the figures of the line with this key. The five key fields have the widths above,
  * filled with blanks; one of another length matches no line. Changes nothing.
  * Refusals: 20, then 16. */
-wq_booked wq_line(const uint8_t *school, size_t school_length, const uint8_t *school_qualifier, size_t school_qualifier_length, const uint8_t *supplier, size_t supplier_length, const uint8_t *supplier_qualifier, size_t supplier_qualifier_length, const uint8_t *reference, size_t reference_length, const uint8_t *article, size_t article_length, const uint8_t *article_qualifier, size_t article_qualifier_length, const uint8_t *lines, size_t lines_length, const uint8_t *slips, size_t slips_length, const size_t *used);
+wq_told wq_line(const uint8_t *school, size_t school_length, const uint8_t *school_qualifier, size_t school_qualifier_length, const uint8_t *supplier, size_t supplier_length, const uint8_t *supplier_qualifier, size_t supplier_qualifier_length, const uint8_t *reference, size_t reference_length, const uint8_t *lines, size_t lines_length, const uint8_t *slips, size_t slips_length, const size_t *used);
 
 /* Saves the book: writes WQ_SAVE_LENGTH(used[0], used[1]) bytes to `out` and gives that
  * `length`. The rest of `out` and the book never change. It takes every sound book; a book
@@ -352,8 +359,8 @@ wq_saved wq_save(const uint8_t *lines, size_t lines_length, const uint8_t *slips
  * room has, up to 65,535 of each, is judged whole too before it is answered 23: what is
  * longer than WQ_SAVE_LENGTH(WQ_MOST_LINES, WQ_MOST_SLIPS) need not be tried.
  * Refusals: 20 for room sizes alone; 22 for bytes that are not exactly one valid save, keys
- * that repeat, or a line with more than 9,999,999 arrived; 23 where the save is valid but
- * has more lines or slips than the rooms. */
+ * that repeat (also of two lines with different articles), or a line with more than
+ * 9,999,999 arrived; 23 where the save is valid but has more lines or slips than the rooms. */
 wq_loaded wq_load(const uint8_t *saved, size_t saved_length, uint8_t *lines, size_t lines_length, uint8_t *slips, size_t slips_length, size_t *used);
 
 /* Gives the ceiling of the first school with this account, as wq_book would find it. `count`
