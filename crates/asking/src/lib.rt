@@ -5,15 +5,14 @@ ghost use mathlib.Core.List.{[], _∷_, map};
 ghost use Rattle.cells.specs.Bytes.{joined};
 ghost use Rattle.book.specs.Lent.{lent, sound, findLine};
 ghost use Rattle.book.specs.Asked.{keyWidths, areWide, figuresAt, lineAsked};
-use book::answer::Booked;
 use book::answer::Refused;
+use book::answer::Told;
 use book::answer::done;
 use book::answer::refuse;
 use book::seek::find_line;
 use book::seek::is_sound;
 use cells::search::Found;
 use entry::key::ADDRESS_WIDTH;
-use entry::key::ARTICLE_WIDTH;
 use entry::key::KEY_FIELDS;
 use entry::key::QUALIFIER_WIDTH;
 use entry::key::REFERENCE_WIDTH;
@@ -26,22 +25,18 @@ fn are_wide(
     supplier: &[u8],
     supplier_qualifier: &[u8],
     reference: &[u8],
-    article: &[u8],
-    article_qualifier: &[u8],
 ) -> bool
-    ensures { λ r. ⌜ r ≡ areWide keyWidths (now (school .entry) ∷ now («school_qualifier» .entry) ∷ now (supplier .entry) ∷ now («supplier_qualifier» .entry) ∷ now (reference .entry) ∷ now (article .entry) ∷ now («article_qualifier» .entry) ∷ []) ⌝ }
+    ensures { λ r. ⌜ r ≡ areWide keyWidths (now (school .entry) ∷ now («school_qualifier» .entry) ∷ now (supplier .entry) ∷ now («supplier_qualifier» .entry) ∷ now (reference .entry) ∷ []) ⌝ }
 {
     (school.len() == ADDRESS_WIDTH)
         & ((school_qualifier.len() == QUALIFIER_WIDTH)
             & ((supplier.len() == ADDRESS_WIDTH)
                 & ((supplier_qualifier.len() == QUALIFIER_WIDTH)
-                    & ((reference.len() == REFERENCE_WIDTH)
-                        & ((article.len() == ARTICLE_WIDTH)
-                            & (article_qualifier.len() == QUALIFIER_WIDTH))))))
+                    & (reference.len() == REFERENCE_WIDTH))))
 }
 
 // The figures of the first line with a key, in a sound book.
-fn figures_at(key: [&[u8]; KEY_FIELDS], lines: &[u8], slips: &[u8], used: &[usize; 2]) -> Booked
+fn figures_at(key: [&[u8]; KEY_FIELDS], lines: &[u8], slips: &[u8], used: &[usize; 2]) -> Told
     requires { ⌜ (sound (lent (now lines) (now slips) (now used)) ≡ true) × (areWide keyWidths (map now key) ≡ true) ⌝ }
     ensures { λ r. ⌜ r ≡ figuresAt (lent (now (lines .entry)) (now (slips .entry)) (now (used .entry))) (findLine (lent (now (lines .entry)) (now (slips .entry)) (now (used .entry))) (joined (map now (key .entry)))) ⌝ }
 {
@@ -58,13 +53,11 @@ pub fn line<'a>(
     supplier: &'a [u8],
     supplier_qualifier: &'a [u8],
     reference: &'a [u8],
-    article: &'a [u8],
-    article_qualifier: &'a [u8],
     lines: &[u8],
     slips: &[u8],
     used: &[usize; 2],
-) -> Booked
-    ensures { λ r. ⌜ r ≡ lineAsked (now (school .entry) ∷ now («school_qualifier» .entry) ∷ now (supplier .entry) ∷ now («supplier_qualifier» .entry) ∷ now (reference .entry) ∷ now (article .entry) ∷ now («article_qualifier» .entry) ∷ []) (lent (now (lines .entry)) (now (slips .entry)) (now (used .entry))) ⌝ }
+) -> Told
+    ensures { λ r. ⌜ r ≡ lineAsked (now (school .entry) ∷ now («school_qualifier» .entry) ∷ now (supplier .entry) ∷ now («supplier_qualifier» .entry) ∷ now (reference .entry) ∷ []) (lent (now (lines .entry)) (now (slips .entry)) (now (used .entry))) ⌝ }
 {
     if !is_sound(lines, slips, used) {
         return refuse(Refused::Unsound);
@@ -75,8 +68,6 @@ pub fn line<'a>(
         supplier,
         supplier_qualifier,
         reference,
-        article,
-        article_qualifier,
     ) {
         return refuse(Refused::NoLine);
     }
@@ -86,8 +77,6 @@ pub fn line<'a>(
         supplier,
         supplier_qualifier,
         reference,
-        article,
-        article_qualifier,
     ];
     figures_at(key, lines, slips, used)
 }

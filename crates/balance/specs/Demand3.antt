@@ -18,7 +18,7 @@ use Rattle.ledger.specs.Lists.{keep, total}
 use Rattle.book.specs.Lent.{Lent, lent, sound}
 use Rattle.book.specs.Booking.{keyFields, schoolFields, slipFields, copiesIn, markIn, refusedAs, doneAs, fieldsIn}
 use Rattle.book.specs.declared.answer.Refused.the-variants.{Unsound, NoLine}
-use Rattle.book.specs.declared.answer.Booked.{Booked}
+use Rattle.book.specs.declared.answer.Told.{Told}
 use Rattle.balance.specs.Met.{Met}
 use Rattle.balance.specs.Calls.{bookCall, askCall}
 use Rattle.balance.specs.Accepted.{OnRoster, AcceptedExactly}
@@ -44,7 +44,7 @@ isReport s = byKind false false true false (kindOf (s .given))
 unfoldable pub copiesOn : Met → ℕ
 copiesOn s = byKind (copiesIn Order (s .given) .0) (copiesIn Goods (s .given) .0) 0 0 (kindOf (s .given))
 
--- the seven fields of its line's key: school address and qualifier, supplier address and qualifier, reference, article and qualifier
+-- the five fields of its line's key: school address and qualifier, supplier address and qualifier, reference
 unfoldable pub keyFieldsIn : Met → List (List ℕ)
 keyFieldsIn s =
     byKind (fieldsIn Order (keyFields Order) (s .given)) (fieldsIn Goods (keyFields Goods) (s .given)) (fieldsIn Report (keyFields Report) (s .given)) [] (kindOf (s .given))
@@ -86,7 +86,7 @@ lastMark earlier [] = earlier
 lastMark earlier (s ∷ ss) = lastMark (markIn (s .given)) ss
 
 -- what a key's own accepted records say of its line: its order begins it, the deliveries after that are summed, and the last report's mark counts; without an order there is none (16)
-unfoldable pub lineFrom : List Met → Booked
+unfoldable pub lineFrom : List Met → Told
 lineFrom [] = refusedAs NoLine
 lineFrom (s ∷ ss) =
     pick (isOrder s)

@@ -20,10 +20,10 @@ use Rattle.ledger.specs.Demand3.{Promise3}
 use Rattle.book.specs.Lent.{Lent, sound, openCopies}
 use Rattle.roster.specs.Roster.{rosterSound, standing}
 use Rattle.roster.specs.declared.Standing.the-variants.{On}
-use Rattle.book.specs.Booking.{nothingToBook, noCopies, noReference, schoolIn, refusedAs}
+use Rattle.book.specs.Booking.{nothingToBook, noCopies, noReference, schoolIn, refusedAs, toldIn}
 use Rattle.book.specs.Asked.{keyWidths, areWide}
 use Rattle.book.specs.declared.answer.Refused.the-variants.{Unsound, NoLine}
-use Rattle.book.specs.declared.answer.Booked.{Booked}
+use Rattle.book.specs.declared.answer.Told.{Told}
 use Rattle.balance.specs.Told.{told, roomsOf, fitOf}
 use Rattle.balance.specs.Met.{Met}
 use Rattle.balance.specs.Calls.{bookCall, askCall}
@@ -36,7 +36,7 @@ figuresTold l =
     record { ordered = copies (ordered l); filled = copies (filled l); «still_open» = copies (stillOpen l); «let_go» = copies (letGo l); extra = copies (extra l) }
 
 -- what a call says of the line that is found, or that there is none
-unfoldable pub saysOf : Option Line → Booked
+unfoldable pub saysOf : Option Line → Told
 saysOf none = refusedAs NoLine
 saysOf (some l) = record { answer = 0; place = 0; figures = figuresTold l }
 
@@ -46,10 +46,10 @@ AskedTells = (fields : List (List ℕ)) (b : Lent)
     → askCall fields b
     ≡ pick (sound b) (pick (areWide keyWidths fields) (saysOf (lineAt (joined fields) (told b .lines))) (refusedAs NoLine)) (refusedAs Unsound)
 
--- where booking answers 0, the call by key with the record's own key says the same of the book afterwards; the used counts are two numbers, as their type has it
+-- where booking answers 0, the call by key with the record's own key says the same of the book afterwards, but for `agreed`, which is of the record and not of the line; the used counts are two numbers, as their type has it
 abbrev pub BookedTells : Type 0
 BookedTells = (s : Met) (b : Lent) → length (b .used) ≡ 2 → bookCall s b .said .answer ≡ 0
-    → askCall (keyFieldsIn s) (bookCall s b .lent) ≡ bookCall s b .said
+    → askCall (keyFieldsIn s) (bookCall s b .lent) ≡ toldIn (bookCall s b .said)
 
 -- of a record that is read and has something to book, for a school on the roster, booking and the rule on lists give one number
 abbrev pub NumbersAgree : Type 0

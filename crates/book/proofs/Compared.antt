@@ -48,33 +48,18 @@ party-then s at m address qualifier rest h e f =
     ∙ rw (same-parts s (at + 10) 2 m qualifier rest (omega arith) f, end)
     (and-assoc (same (slice at (at + 10) s) address) (same (slice (at + 10) (at + 12) s) qualifier) (same (slice (at + 12) (at + 12 + m) s) rest))
 
--- and what is wanted, which ends the key
-wanted-parts : (s : List ℕ) (at : ℕ) (reference article qualifier : List ℕ) → at + 25 ≤ length s → length reference ≡ 10 → length article ≡ 13
-    → same (slice at (at + 25) s) (reference ++ (article ++ (qualifier ++ [])))
-    ≡ same (slice at (at + 10) s) reference && (same (slice (at + 10) (at + 23) s) article && same (slice (at + 23) (at + 25) s) qualifier)
-wanted-parts s at reference article qualifier h e f =
-    let middle : at + 10 + 13 ≡ at + 23 = omega arith in
-    let end : at + 23 + 2 ≡ at + 25 = omega arith in
-    rw (append-nil qualifier)
-    (same-parts s at 10 15 reference (article ++ qualifier) (omega arith) e
-    ∙ rw (same-parts s (at + 10) 13 2 article qualifier (omega arith) f, middle, end) refl)
-
--- a party stands at a place, and what is wanted
+-- a party stands at a place
 module _ (lines : List ℕ) where
   abbrev pub partyAt : ℕ → List ℕ → List ℕ → Bool
   partyAt at address qualifier = same (slice at (at + 10) lines) address && same (slice (at + 10) (at + 12) lines) qualifier
 
-  abbrev pub wantedAt : ℕ → List ℕ → List ℕ → List ℕ → Bool
-  wantedAt at reference article qualifier =
-      same (slice at (at + 10) lines) reference && (same (slice (at + 10) (at + 23) lines) article && same (slice (at + 23) (at + 25) lines) qualifier)
-
   -- the line with an index has a key just where its fields stand there
-  pub key-fields : (i : ℕ) (a b c d e f g : List ℕ) → lineWidth * i + lineWidth ≤ length lines → Wide a b c d e f g
-      → keyIs lines (joined (a ∷ b ∷ c ∷ d ∷ e ∷ f ∷ g ∷ [])) i
-      ≡ partyAt (lineWidth * i) a b && (partyAt (lineWidth * i + 12) c d && wantedAt (lineWidth * i + 24) e f g)
+  pub key-fields : (i : ℕ) (a b c d e : List ℕ) → lineWidth * i + lineWidth ≤ length lines → Wide a b c d e
+      → keyIs lines (joined (a ∷ b ∷ c ∷ d ∷ e ∷ [])) i
+      ≡ partyAt (lineWidth * i) a b && (partyAt (lineWidth * i + 12) c d && same (slice (lineWidth * i + 24) (lineWidth * i + 24 + 10) lines) e)
   unfolding keyIs keyAt joined
-  key-fields i a b c d e f g h w =
+  key-fields i a b c d e h w =
       let p : ℕ = lineWidth * i in
       let second : p + 12 + 12 ≡ p + 24 = omega arith in
-      party-then lines p 37 a b _ (omega arith) (w .school-wide) (w .school-qualified)
-      ∙ rw (party-then lines (p + 12) 25 c d (e ++ (f ++ (g ++ []))) (omega arith) (w .supplier-wide) (w .supplier-qualified), second, wanted-parts lines (p + 24) e f g (omega arith) (w .reference-wide) (w .article-wide)) refl
+      party-then lines p 22 a b _ (omega arith) (w .school-wide) (w .school-qualified)
+      ∙ rw (party-then lines (p + 12) 10 c d (e ++ []) (omega arith) (w .supplier-wide) (w .supplier-qualified), second, append-nil e) refl

@@ -1,7 +1,7 @@
 -- The fields of a record that fits: each keeps its rule and has its length; so keys have their widths, and a quantity at most four digits.
 use mathlib.Core.Path.{_≡_, refl}
 use mathlib.Core.Bool.{Bool, true}
-use mathlib.Core.List.{List, [], _∷_, map}
+use mathlib.Core.List.{List, [], _∷_, _++_, map}
 use Prim.Native.Nat.{ℕ, _+_, _^_, _≤_, _<_}
 use native.Mathlib.Nat.{pow-le-pow-right}
 use native.Mathlib.Omega.{arith}
@@ -22,9 +22,9 @@ use Rattle.record.specs.declared.layout.Kind.{Kind}
 use Rattle.record.specs.declared.layout.Kind.the-variants.{Order, Goods}
 use Rattle.record.proofs.Kept.{each-kept, field-length}
 use Rattle.reader.proofs.Fitting.{Fitting}
-use Rattle.entry.specs.Stored.{keyWidth, slipKeyWidth, mostCopies}
+use Rattle.entry.specs.Stored.{keyWidth, orderedAt, slipKeyWidth, mostCopies}
 use Rattle.book.specs.Asked.{areWide}
-use Rattle.book.specs.Booking.{keyFields, lineKey, slipKey, copiesIn, fieldsIn}
+use Rattle.book.specs.Booking.{keyFields, lineKey, articleFields, articleIn, slipKey, copiesIn, fieldsIn}
 
 -- the lengths of the fields with some indexes, added up
 abbrev pub widths : Kind → List ℕ → ℕ
@@ -63,7 +63,15 @@ digits-most xs e =
 -- keys in a record that is long enough
 pub order-key-long : (s : List ℕ) → fixedWidth Order ≤ length s → length (lineKey Order s) ≡ keyWidth
 unfolding lineKey keyFields layout all
-order-key-long s h = fields-length Order s h (1 ∷ 2 ∷ 3 ∷ 4 ∷ 6 ∷ 7 ∷ 8 ∷ []) refl
+order-key-long s h = fields-length Order s h (1 ∷ 2 ∷ 3 ∷ 4 ∷ 6 ∷ []) refl
+
+order-article-long : (s : List ℕ) → fixedWidth Order ≤ length s → length (articleIn Order s) ≡ 15
+unfolding articleIn articleFields layout all
+order-article-long s h = fields-length Order s h (7 ∷ 8 ∷ []) refl
+
+-- what an order's line is named by
+pub order-named-long : (s : List ℕ) → fixedWidth Order ≤ length s → length (lineKey Order s ++ articleIn Order s) ≡ orderedAt
+order-named-long s h = rw (length-append (lineKey Order s) (articleIn Order s), order-key-long s h, order-article-long s h)
 
 pub slip-key-long : (s : List ℕ) → fixedWidth Goods ≤ length s → length (slipKey s) ≡ slipKeyWidth
 unfolding slipKey layout all
@@ -73,6 +81,9 @@ slip-key-long s h = fields-length Goods s h (1 ∷ 2 ∷ 3 ∷ 4 ∷ 5 ∷ 6 ∷
 module _ (s : List ℕ) (n : ℕ) where
   pub order-key : Fitting Order s n → length (lineKey Order s) ≡ keyWidth
   order-key f = order-key-long s (omega (arith, f .wide))
+
+  pub order-named : Fitting Order s n → length (lineKey Order s ++ articleIn Order s) ≡ orderedAt
+  order-named f = order-named-long s (omega (arith, f .wide))
 
   pub slip-key-width : Fitting Goods s n → length (slipKey s) ≡ slipKeyWidth
   slip-key-width f = slip-key-long s (omega (arith, f .wide))

@@ -7,12 +7,12 @@ use native.Mathlib.Omega.{arith}
 use denote.Ref.{RefT, now}
 use lib.ListN.{length, getD}
 use lib.Seq.{slice}
-use Rattle.cells.specs.Bytes.{joined}
+use Rattle.cells.specs.Bytes.{same, joined}
 use Rattle.cells.specs.Little.{leBytes}
 use Rattle.entry.specs.Stored.{lineWidth, keyWidth, keyAt, keyIs}
 use Rattle.book.specs.Asked.{keyWidths, areWide}
-use Rattle.book.proofs.Wide.{Wide, before, key-wide, field-in, seven}
-use Rattle.book.proofs.Compared.{told-apart, partyAt, wantedAt, key-fields}
+use Rattle.book.proofs.Wide.{Wide, before, key-wide, field-in, five}
+use Rattle.book.proofs.Compared.{told-apart, partyAt, key-fields}
 
 -- what lies behind the reference at an index
 abbrev pub fieldOf : List (RefT (List ℕ)) → ℕ → List ℕ
@@ -24,24 +24,24 @@ behind (r ∷ rs) zero = refl
 behind (r ∷ rs) (suc k) = behind rs k
 
 module _ (l : List (RefT (List ℕ))) (h : areWide keyWidths (map now l) ≡ true) where
-  -- the seven fields, each of its length
-  given-seven : map now l ≡ fieldOf l 0 ∷ fieldOf l 1 ∷ fieldOf l 2 ∷ fieldOf l 3 ∷ fieldOf l 4 ∷ fieldOf l 5 ∷ fieldOf l 6 ∷ []
-  given-seven = seven (map now l) h ∙ rw (behind l 0, behind l 1, behind l 2, behind l 3, behind l 4, behind l 5, behind l 6) refl
+  -- the five fields, each of its length
+  given-five : map now l ≡ fieldOf l 0 ∷ fieldOf l 1 ∷ fieldOf l 2 ∷ fieldOf l 3 ∷ fieldOf l 4 ∷ []
+  given-five = five (map now l) h ∙ rw (behind l 0, behind l 1, behind l 2, behind l 3, behind l 4) refl
 
-  pub given-wide : Wide (fieldOf l 0) (fieldOf l 1) (fieldOf l 2) (fieldOf l 3) (fieldOf l 4) (fieldOf l 5) (fieldOf l 6)
-  given-wide = key-wide _ _ _ _ _ _ _ (sym (ap (areWide keyWidths) given-seven) ∙ h)
+  pub given-wide : Wide (fieldOf l 0) (fieldOf l 1) (fieldOf l 2) (fieldOf l 3) (fieldOf l 4)
+  given-wide = key-wide _ _ _ _ _ (sym (ap (areWide keyWidths) given-five) ∙ h)
 
   -- a line has the key just where the fields stand there
   module _ (lines : List ℕ) (i : ℕ) where
     pub given-key : lineWidth * i + lineWidth ≤ length lines
         → keyIs lines (joined (map now l)) i
         ≡ partyAt lines (lineWidth * i) (fieldOf l 0) (fieldOf l 1)
-        && (partyAt lines (lineWidth * i + 12) (fieldOf l 2) (fieldOf l 3) && wantedAt lines (lineWidth * i + 24) (fieldOf l 4) (fieldOf l 5) (fieldOf l 6))
+        && (partyAt lines (lineWidth * i + 12) (fieldOf l 2) (fieldOf l 3) && same (slice (lineWidth * i + 24) (lineWidth * i + 24 + 10) lines) (fieldOf l 4))
     given-key room =
-        ap (λ (fs : List (List ℕ)). keyIs lines (joined fs) i) given-seven ∙ key-fields lines i _ _ _ _ _ _ _ room given-wide
+        ap (λ (fs : List (List ℕ)). keyIs lines (joined fs) i) given-five ∙ key-fields lines i _ _ _ _ _ room given-wide
 
     -- and not where eight bytes of a field are others there
-    pub field-other : (f from x y : ℕ) → f < 7 → from + 8 ≤ getD keyWidths f 0 → before keyWidths f + from + 8 ≤ keyWidth → x < 256 ^ 8 → y < 256 ^ 8 → (x ≡ y → ⊥)
+    pub field-other : (f from x y : ℕ) → f < 5 → from + 8 ≤ getD keyWidths f 0 → before keyWidths f + from + 8 ≤ keyWidth → x < 256 ^ 8 → y < 256 ^ 8 → (x ≡ y → ⊥)
         → leBytes 8 x ≡ slice (lineWidth * i + (before keyWidths f + from)) (lineWidth * i + (before keyWidths f + from) + 8) lines → leBytes 8 y ≡ slice from (from + 8) (fieldOf l f)
         → keyIs lines (joined (map now l)) i ≡ false
     unfolding keyIs keyAt

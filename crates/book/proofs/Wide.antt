@@ -51,37 +51,30 @@ field-in (w ∷ ws) (g ∷ gs) (suc f) x y h k l =
     rw (← e, add-assoc (length g) (before ws f) x, add-assoc (length g) (before ws f) y, take-append-add g (joined gs) (before ws f + y), drop-append-add g (take (before ws f + y) (joined gs)) (before ws f + x))
     (field-in ws gs f x y (wide-rest w ws g gs h) (omega arith) l)
 
--- the seven of a line's key
-pub seven : (fs : List (List ℕ)) → areWide keyWidths fs ≡ true
-    → fs ≡ getD fs 0 [] ∷ getD fs 1 [] ∷ getD fs 2 [] ∷ getD fs 3 [] ∷ getD fs 4 [] ∷ getD fs 5 [] ∷ getD fs 6 [] ∷ []
-seven fs h =
-    let n : length fs ≡ 7 = wide-many keyWidths fs h in
+-- the five of a line's key
+pub five : (fs : List (List ℕ)) → areWide keyWidths fs ≡ true → fs ≡ getD fs 0 [] ∷ getD fs 1 [] ∷ getD fs 2 [] ∷ getD fs 3 [] ∷ getD fs 4 [] ∷ []
+five fs h =
+    let n : length fs ≡ 5 = wide-many keyWidths fs h in
     drop-cons fs 0 [] (omega arith)
-    ∙ rw (drop-cons fs 1 [] (omega arith), drop-cons fs 2 [] (omega arith), drop-cons fs 3 [] (omega arith), drop-cons fs 4 [] (omega arith), drop-cons fs 5 [] (omega arith), drop-cons fs 6 [] (omega arith), drop-of-length-le fs {i = 7} (omega arith)) refl
+    ∙ rw (drop-cons fs 1 [] (omega arith), drop-cons fs 2 [] (omega arith), drop-cons fs 3 [] (omega arith), drop-cons fs 4 [] (omega arith), drop-of-length-le fs {i = 5} (omega arith)) refl
 
 -- each of its length
-pub record Wide (school schoolQualifier supplier supplierQualifier reference article articleQualifier : List ℕ) : Type 0 where
+pub record Wide (school schoolQualifier supplier supplierQualifier reference : List ℕ) : Type 0 where
   pub school-wide : length school ≡ 10
   pub school-qualified : length schoolQualifier ≡ 2
   pub supplier-wide : length supplier ≡ 10
   pub supplier-qualified : length supplierQualifier ≡ 2
   pub reference-wide : length reference ≡ 10
-  pub article-wide : length article ≡ 13
-  pub article-qualified : length articleQualifier ≡ 2
 
-pub key-wide : (a b c d e f g : List ℕ) → areWide keyWidths (a ∷ b ∷ c ∷ d ∷ e ∷ f ∷ g ∷ []) ≡ true → Wide a b c d e f g
-key-wide a b c d e f g h =
+pub key-wide : (a b c d e : List ℕ) → areWide keyWidths (a ∷ b ∷ c ∷ d ∷ e ∷ []) ≡ true → Wide a b c d e
+key-wide a b c d e h =
     let h2 = wide-rest _ _ _ _ h in
     let h3 = wide-rest _ _ _ _ h2 in
     let h4 = wide-rest _ _ _ _ h3 in
-    let h5 = wide-rest _ _ _ _ h4 in
-    let h6 = wide-rest _ _ _ _ h5 in
     record {
       school-wide = wide-first _ _ _ _ h;
       school-qualified = wide-first _ _ _ _ h2;
       supplier-wide = wide-first _ _ _ _ h3;
       supplier-qualified = wide-first _ _ _ _ h4;
-      reference-wide = wide-first _ _ _ _ h5;
-      article-wide = wide-first _ _ _ _ h6;
-      article-qualified = wide-first _ _ _ _ (wide-rest _ _ _ _ h6);
+      reference-wide = wide-first _ _ _ _ (wide-rest _ _ _ _ h4);
     }

@@ -1,7 +1,7 @@
 -- Booking a record into a lent book: its refusals in their order, and what an accepted record changes (RULES 7).
 use Prim.Native.Nat.{ℕ, _+_}
 use mathlib.Core.Bool.{Bool, true, false, _&&_}
-use mathlib.Core.List.{List, [], _∷_, map}
+use mathlib.Core.List.{List, [], _∷_, _++_, map}
 use lib.Dec.{eqb, leb, ltb}
 use lib.ListN.{take, set}
 use Rattle.cells.specs.Bytes.{pick, bytes, same, joined}
@@ -25,7 +25,7 @@ use Rattle.record.specs.declared.layout.Kind.the-variants.{Order, Goods, Closin
 use Rattle.record.specs.declared.layout.Kinded.{Kinded}
 use Rattle.record.specs.declared.layout.Kinded.the-variants.{Known, Unknown}
 use Rattle.entry.specs.Line.{withMark, withArrivals, figuresOf}
-use Rattle.entry.specs.Stored.{mostArrived, lineAt, putLine, addLine, keyIs, slipLineAt, slipCopiesAt, addSlip}
+use Rattle.entry.specs.Stored.{mostArrived, lineAt, putLine, addLine, keyIs, articleIs, slipLineAt, slipCopiesAt, addSlip}
 use Rattle.entry.specs.declared.line.Mark.{Mark}
 use Rattle.entry.specs.declared.line.Mark.the-variants.{Unmarked, Held, Dropped}
 use Rattle.entry.specs.declared.line.Line.{Line}
@@ -35,6 +35,7 @@ use Rattle.book.specs.declared.answer.Refused.{Refused}
 use Rattle.book.specs.declared.answer.Refused.the-variants.{Unsound, Unread, NothingToBook, NoCopies, NoReference, LineExists, LinesUsed, NoLine, SlipBooked, SlipDiffers, SlipsUsed, TooManyArrived, NotOnRoster, CeilingPassed}
 use Rattle.book.specs.declared.answer.Verdict.{Verdict}
 use Rattle.book.specs.declared.answer.Verdict.the-variants.{Refuse, Fits}
+use Rattle.book.specs.declared.answer.Told.{Told}
 use Rattle.book.specs.declared.answer.Booked.{Booked}
 
 -- the answer number of each refusal
@@ -77,13 +78,23 @@ fieldsIn k is s = map (λ (i : ℕ). fieldBytes k i s) is
 
 -- the fields of a record that make its line's key, by their indexes; the school's come first (RULES 6.1)
 unfoldable pub keyFields : Kind → List ℕ
-keyFields Order = 1 ∷ 2 ∷ 3 ∷ 4 ∷ 6 ∷ 7 ∷ 8 ∷ []
-keyFields Goods = 3 ∷ 4 ∷ 1 ∷ 2 ∷ 8 ∷ 9 ∷ 10 ∷ []
+keyFields Order = 1 ∷ 2 ∷ 3 ∷ 4 ∷ 6 ∷ []
+keyFields Goods = 3 ∷ 4 ∷ 1 ∷ 2 ∷ 8 ∷ []
 keyFields Closing = []
-keyFields Report = 3 ∷ 4 ∷ 1 ∷ 2 ∷ 6 ∷ 7 ∷ 8 ∷ []
+keyFields Report = 3 ∷ 4 ∷ 1 ∷ 2 ∷ 6 ∷ []
 
 unfoldable pub lineKey : Kind → List ℕ → List ℕ
 lineKey k s = joined (fieldsIn k (keyFields k) s)
+
+-- those that name the article: its number and its qualifier. They are no part of the key, since a supplier may answer with a number of its own
+unfoldable pub articleFields : Kind → List ℕ
+articleFields Order = 7 ∷ 8 ∷ []
+articleFields Goods = 9 ∷ 10 ∷ []
+articleFields Closing = []
+articleFields Report = 7 ∷ 8 ∷ []
+
+unfoldable pub articleIn : Kind → List ℕ → List ℕ
+articleIn k s = joined (fieldsIn k (articleFields k) s)
 
 -- a school is an address and its qualifier, the first two fields of a key
 abbrev pub schoolFields : ℕ
@@ -202,7 +213,7 @@ lineAfter Report s b i = withMark (markIn s) (lineAt (b .lines) i)
 -- the lent book after an accepted record (RULES 7.2)
 unfoldable pub lentAfter : Kind → List ℕ → Lent → ℕ → Lent
 lentAfter Order s b i =
-    record { lines = addLine (b .lines) i (lineKey Order s) (lineAfter Order s b i); slips = b .slips; used = set (b .used) 0 (usedLines b + 1) }
+    record { lines = addLine (b .lines) i (lineKey Order s ++ articleIn Order s) (lineAfter Order s b i); slips = b .slips; used = set (b .used) 0 (usedLines b + 1) }
 lentAfter Goods s b i =
     record {
       lines = putLine (b .lines) i (lineAfter Goods s b i);
@@ -224,20 +235,37 @@ abbrev pub noFigures : Figures
 noFigures = record { ordered = copies 0; filled = copies 0; «still_open» = copies 0; «let_go» = copies 0; extra = copies 0 }
 
 -- what a refusal says: no figures
-unfoldable pub refusedAs : Refused → Booked
+unfoldable pub refusedAs : Refused → Told
 refusedAs r = record { answer = refusedNumber r; place = refusedPlace r; figures = noFigures }
 
 -- done, with the figures of the line
-unfoldable pub doneAs : Line → Booked
+unfoldable pub doneAs : Line → Told
 doneAs l = record { answer = 0; place = 0; figures = figuresOf l }
+
+-- what is told of a line and whether the articles agreed, as one and taken apart; those of a refused record did not
+abbrev pub bookedAs : Told → ℕ → Booked
+bookedAs t agreed = record { answer = t .answer; place = t .place; figures = t .figures; agreed = agreed }
+
+abbrev pub toldIn : Booked → Told
+toldIn said = record { answer = said .answer; place = said .place; figures = said .figures }
+
+abbrev pub notBooked : Refused → Booked
+notBooked r = bookedAs (refusedAs r) 0
+
+-- 1 where the record names the article of the line at i, number and qualifier byte for byte, else 0; an order names its own
+unfoldable pub agreedAs : Kind → List ℕ → Lent → ℕ → ℕ
+agreedAs Order s b i = 1
+agreedAs Goods s b i = pick (articleIs (b .lines) (articleIn Goods s) i) 1 0
+agreedAs Closing s b i = 0
+agreedAs Report s b i = pick (articleIs (b .lines) (articleIn Report s) i) 1 0
 
 -- a record of a kind entered at the line with an index
 unfoldable pub enteredAs : Kind → List ℕ → Lent → ℕ → Outcome
-enteredAs k s b i = outcome (doneAs (lineAfter k s b i)) (lentAfter k s b i)
+enteredAs k s b i = outcome (bookedAs (doneAs (lineAfter k s b i)) (agreedAs k s b i)) (lentAfter k s b i)
 
 -- the book stays as it was where a record is refused
 unfoldable pub settled : Kind → List ℕ → Lent → Verdict → Outcome
-settled k s b (Refuse r) = outcome (refusedAs r) b
+settled k s b (Refuse r) = outcome (notBooked r) b
 settled k s b (Fits i) = enteredAs k s b i
 
 -- a record of a kind that is read, booked into a sound book
@@ -245,14 +273,14 @@ unfoldable pub bookAs : Kind → List ℕ → List ℕ → Lent → Outcome
 bookAs k s roster b = settled k s b (fitJudged k s roster b)
 
 unfoldable pub bookKind : Kinded → List ℕ → List ℕ → Lent → Outcome
-bookKind Unknown s roster b = outcome (refusedAs NothingToBook) b
+bookKind Unknown s roster b = outcome (notBooked NothingToBook) b
 bookKind (Known k) s roster b = bookAs k s roster b
 
 -- 1 to 10 first
 unfoldable pub bookRead : Reading → List ℕ → List ℕ → Lent → Outcome
-bookRead (ReadRefused r) s roster b = outcome (refusedAs (Unread r)) b
+bookRead (ReadRefused r) s roster b = outcome (notBooked (Unread r)) b
 bookRead (ReadFits n) s roster b = bookKind (kindOf s) s roster b
 
 -- a record that meets a roster, booked into a lent book: 20 before all
 unfoldable pub book : List ℕ → List ℕ → Lent → Outcome
-book s roster b = pick (rosterSound roster && sound b) (bookRead (judged s) s roster b) (outcome (refusedAs Unsound) b)
+book s roster b = pick (rosterSound roster && sound b) (bookRead (judged s) s roster b) (outcome (notBooked Unsound) b)

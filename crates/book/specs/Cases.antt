@@ -10,11 +10,11 @@ use Rattle.record.specs.Samples.{X, Y, Z, put, Call, reads, books}
 use Rattle.record.specs.Edges.{C, fullTable}
 use Rattle.record.specs.declared.answer.Checked.{Checked}
 use Rattle.record.specs.declared.layout.Kind.the-variants.{Order, Goods}
-use Rattle.entry.specs.Stored.{lineWidth, slipWidth, keyWidth, markAt, arrivedAt, slipKeyWidth}
+use Rattle.entry.specs.Stored.{lineWidth, slipWidth, orderedAt, markAt, arrivedAt, slipKeyWidth}
 use Rattle.book.specs.Lent.{Lent}
-use Rattle.book.specs.Booking.{lentAfter, book}
+use Rattle.book.specs.Booking.{toldIn, lentAfter, book}
 use Rattle.book.specs.Asked.{lineAsked}
-use Rattle.book.specs.declared.answer.Booked.{Booked}
+use Rattle.book.specs.declared.answer.Told.{Told}
 
 -- an empty book whose rooms held something else before
 abbrev pub roomy : ℕ → ℕ → Lent
@@ -25,13 +25,13 @@ abbrev pub schools : List ℕ
 schools = entry "43211     VD" 500 ++ (entry "43210     VD" 500 ++ entry "43212     VD" 500)
 
 -- what the desk prints of a record: answer, ordered, filled, open, let go, extra
-abbrev pub printed : Booked → List ℕ
-printed b =
-    b .answer ∷ b .figures .ordered .0 ∷ b .figures .filled .0 ∷ b .figures .«still_open» .0 ∷ b .figures .«let_go» .0 ∷ b .figures .extra .0 ∷ []
+abbrev pub printed : Told → List ℕ
+printed t =
+    t .answer ∷ t .figures .ordered .0 ∷ t .figures .filled .0 ∷ t .figures .«still_open» .0 ∷ t .figures .«let_go» .0 ∷ t .figures .extra .0 ∷ []
 
 unfoldable pub desk : Lent → List (List ℕ) → List (List ℕ)
 desk b [] = []
-desk b (s ∷ ss) = printed (book s schools b .said) ∷ desk (book s schools b .lent) ss
+desk b (s ∷ ss) = printed (toldIn (book s schools b .said)) ∷ desk (book s schools b .lent) ss
 
 -- the desk's eight records (RULES 12)
 unfoldable pub sample : List (List ℕ)
@@ -136,9 +136,9 @@ unsound =
     ∷ withUsed (1 ∷ 3 ∷ [])
     ∷ withUsed (0 ∷ 1 ∷ [])
     ∷ withUsed (2 ∷ 1 ∷ [])  -- the second line's bytes are no line
-    ∷ withLines (λ l. sets l keyWidth (0 ∷ 0 ∷ []))
-    ∷ withLines (λ l. sets l keyWidth (15 ∷ 39 ∷ []))
-    ∷ withLines (λ l. sets l keyWidth (16 ∷ 39 ∷ []))
+    ∷ withLines (λ l. sets l orderedAt (0 ∷ 0 ∷ []))
+    ∷ withLines (λ l. sets l orderedAt (15 ∷ 39 ∷ []))
+    ∷ withLines (λ l. sets l orderedAt (16 ∷ 39 ∷ []))
     ∷ withLines (λ l. set l markAt 2)
     ∷ withLines (λ l. set l markAt 3)
     ∷ withLines (λ l. sets l arrivedAt (127 ∷ 150 ∷ 152 ∷ 0 ∷ []))
@@ -156,7 +156,7 @@ unsoundSays = 0 ∷ 20 ∷ 20 ∷ 20 ∷ 0 ∷ 20 ∷ 20 ∷ 20 ∷ 20 ∷ 20 �
 -- the fields of the key of the line that X adds, from a school and its qualifier on
 abbrev keyFrom : List ℕ → List ℕ → List (List ℕ)
 keyFrom school qualifier =
-    school ∷ qualifier ∷ slice 16 26 X ∷ slice 26 28 X ∷ slice 36 46 X ∷ slice 46 59 X ∷ slice 59 61 X ∷ []
+    school ∷ qualifier ∷ slice 16 26 X ∷ slice 26 28 X ∷ slice 36 46 X ∷ []
 
 -- calls by key on the book after X: X's own; the school's last blank moved to the qualifier; another school; X's own with one line more than there is room for
 unfoldable pub asked : Lent → List (List ℕ)

@@ -3,3 +3,4 @@ pub mod Booking
 pub mod Asked
 pub mod Cases
 pub mod Pairs
+pub mod Articles

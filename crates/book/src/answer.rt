@@ -1,6 +1,6 @@
-// What booking answers: why a record is not booked, and the answer numbers of document 01.
+// What booking and the call by key answer: why not, by the answer numbers of document 01, or the line's figures.
 ghost use mathlib.Core.Path.{_≡_};
-ghost use Rattle.book.specs.Booking.{refusedNumber, refusedPlace, refusedAs, doneAs};
+ghost use Rattle.book.specs.Booking.{refusedNumber, refusedPlace, refusedAs, doneAs, bookedAs, notBooked};
 use entry::line::Figures;
 use entry::line::Line;
 use record::answer::Refusal;
@@ -38,12 +38,21 @@ pub enum Verdict {
     Fits(usize),
 }
 
-// The answer number and place of document 01, and the line's figures.
+// What is told of a line: the answer number and place of document 01, and its figures.
+#[repr(C)]
+pub struct Told {
+    pub answer: u64,
+    pub place: usize,
+    pub figures: Figures,
+}
+
+// The same of a record's line, and whether the record named the line's article: 1 or 0.
 #[repr(C)]
 pub struct Booked {
     pub answer: u64,
     pub place: usize,
     pub figures: Figures,
+    pub agreed: u64,
 }
 
 pub fn refused_number(r: Refused) -> u64
@@ -90,10 +99,10 @@ pub fn refused_place(r: Refused) -> usize
 }
 
 // A refusal with zeros for all other values.
-pub fn refuse(r: Refused) -> Booked
-    ensures { λ b. ⌜ b ≡ refusedAs r ⌝ }
+pub fn refuse(r: Refused) -> Told
+    ensures { λ t. ⌜ t ≡ refusedAs r ⌝ }
 {
-    Booked {
+    Told {
         answer: refused_number(r),
         place: refused_place(r),
         figures: Figures {
@@ -107,12 +116,32 @@ pub fn refuse(r: Refused) -> Booked
 }
 
 // Done, with the figures of the line.
-pub fn done(l: Line) -> Booked
-    ensures { λ b. ⌜ b ≡ doneAs l ⌝ }
+pub fn done(l: Line) -> Told
+    ensures { λ t. ⌜ t ≡ doneAs l ⌝ }
 {
-    Booked {
+    Told {
         answer: 0,
         place: 0,
         figures: l.figures(),
     }
+}
+
+// What is told of a record's line, with whether the articles agreed.
+pub fn with_agreed(t: Told, agreed: u64) -> Booked
+    ensures { λ b. ⌜ b ≡ bookedAs t agreed ⌝ }
+{
+    let figures = t.figures;
+    Booked {
+        answer: t.answer,
+        place: t.place,
+        figures,
+        agreed,
+    }
+}
+
+// A record that is refused.
+pub fn not_booked(r: Refused) -> Booked
+    ensures { λ b. ⌜ b ≡ notBooked r ⌝ }
+{
+    with_agreed(refuse(r), 0)
 }

@@ -1,4 +1,4 @@
-// The line with an index compared with a key, which is given by its fields where they stand: school, supplier, reference and article, the parties and the article each with its qualifier.
+// The line with an index compared with a key, which is given by its fields where they stand: school and supplier, each with its qualifier, and reference.
 ghost use mathlib.Core.Path.{_≡_};
 ghost use mathlib.Core.Bool.{true, _&&_};
 ghost use mathlib.Core.List.{map};
@@ -10,10 +10,10 @@ ghost use Rattle.entry.specs.Stored.{lineWidth, keyIs};
 ghost use Rattle.book.specs.Asked.{keyWidths, areWide};
 use cells::same_wide;
 use entry::key::ADDRESS_WIDTH;
-use entry::key::ARTICLE_WIDTH;
 use entry::key::KEY_FIELDS;
 use entry::key::QUALIFIER_WIDTH;
 use entry::key::REFERENCE_AT;
+use entry::key::REFERENCE_FIELD;
 use entry::key::REFERENCE_WIDTH;
 use entry::key::SECOND_PARTY_AT;
 use entry::stored::LINE_WIDTH;
@@ -38,25 +38,6 @@ fn party_is(lines: &[u8], at: usize, address: &[u8], qualifier: &[u8]) -> bool
     field_is(lines, at + ADDRESS_WIDTH, QUALIFIER_WIDTH, qualifier)
 }
 
-// Whether a reference stands at a place, the article after it, and the article's qualifier last.
-fn wanted_is(lines: &[u8], at: usize, reference: &[u8], article: &[u8], qualifier: &[u8]) -> bool
-    requires { ⌜ (at + 25 ≤ length (now lines)) × (length (now reference) ≡ 10) × (length (now article) ≡ 13) × (length (now qualifier) ≡ 2) ⌝ }
-    ensures { λ r. ⌜ r ≡ same (slice at (at + 10) (now (lines .entry))) (now (reference .entry)) && (same (slice (at + 10) (at + 23) (now (lines .entry))) (now (article .entry)) && same (slice (at + 23) (at + 25) (now (lines .entry))) (now (qualifier .entry))) ⌝ }
-{
-    if !field_is(lines, at, REFERENCE_WIDTH, reference) {
-        return false;
-    }
-    if !field_is(lines, at + REFERENCE_WIDTH, ARTICLE_WIDTH, article) {
-        return false;
-    }
-    field_is(
-        lines,
-        at + (REFERENCE_WIDTH + ARTICLE_WIDTH),
-        QUALIFIER_WIDTH,
-        qualifier,
-    )
-}
-
 // Whether the line with an index has a key; stops at the first field that differs.
 pub fn key_is(lines: &[u8], i: usize, key: [&[u8]; KEY_FIELDS]) -> bool
     requires { ⌜ (lineWidth * i + lineWidth ≤ length (now lines)) × (areWide keyWidths (map now key) ≡ true) ⌝ }
@@ -69,5 +50,10 @@ pub fn key_is(lines: &[u8], i: usize, key: [&[u8]; KEY_FIELDS]) -> bool
     if !party_is(lines, at + SECOND_PARTY_AT, key[2], key[3]) {
         return false;
     }
-    wanted_is(lines, at + REFERENCE_AT, key[4], key[5], key[6])
+    field_is(
+        lines,
+        at + REFERENCE_AT,
+        REFERENCE_WIDTH,
+        key[REFERENCE_FIELD],
+    )
 }

@@ -1,20 +1,20 @@
 -- A record entered: the line, the slip and the counts that the code writes are those of the definition.
 use mathlib.Core.Path.{_≡_, _∙_, ap, refl}
-use mathlib.Core.List.{List, [], _∷_}
+use mathlib.Core.List.{List, [], _∷_, _++_}
 use Prim.Native.Nat.{ℕ, _+_, _≤_}
 use native.Mathlib.Omega.{arith}
 use borrow.Author.Tests.{ne-eqb}
 use lib.ListN.{length, getD, set}
-use Rattle.cells.specs.Bytes.{same}
+use Rattle.cells.specs.Bytes.{pick, same}
 use Rattle.cells.proofs.Parts.{next, nothing}
 use Rattle.record.specs.Layout.{layout, total, startOf, fixedWidth}
 use Rattle.record.specs.Values.{fieldBytes}
 use Rattle.record.specs.declared.layout.Kind.the-variants.{Order, Goods, Report}
 use Rattle.entry.specs.Line.{withMark, withArrivals}
-use Rattle.entry.specs.Stored.{lineAt, putLine, addLine, addSlip}
+use Rattle.entry.specs.Stored.{lineAt, articleIs, putLine, addLine, addSlip}
 use Rattle.entry.specs.declared.line.Mark.the-variants.{Held, Dropped}
 use Rattle.book.specs.Lent.{lent, usedLines, usedSlips}
-use Rattle.book.specs.Booking.{lineKey, slipKey, copiesIn, markIn, newLine, lineAfter, lentAfter, outcome, doneAs, enteredAs}
+use Rattle.book.specs.Booking.{lineKey, articleIn, slipKey, copiesIn, markIn, newLine, lineAfter, lentAfter, outcome, doneAs, bookedAs, agreedAs, enteredAs}
 use Rattle.values.proofs.Places.{report-width}
 
 -- the field with the mark is one byte
@@ -35,19 +35,19 @@ module _ (s : List ℕ) (h : fixedWidth Report ≤ length s) where
 -- what the code writes and says, one record of each kind
 module _ (s lines slips used : List ℕ) (i : ℕ) where
   pub order-entered :
-      outcome (doneAs (newLine (copiesIn Order s))) (lent (addLine lines i (lineKey Order s) (newLine (copiesIn Order s))) slips (set used 0 (getD used 0 0 + 1)))
+      outcome (bookedAs (doneAs (newLine (copiesIn Order s))) 1) (lent (addLine lines i (lineKey Order s ++ articleIn Order s) (newLine (copiesIn Order s))) slips (set used 0 (getD used 0 0 + 1)))
       ≡ enteredAs Order s (lent lines slips used) i
-  unfolding enteredAs lineAfter lentAfter usedLines
+  unfolding enteredAs lineAfter agreedAs lentAfter usedLines
   order-entered = refl
 
   pub goods-entered :
-      outcome (doneAs (withArrivals (copiesIn Goods s) (lineAt lines i))) (lent (putLine lines i (withArrivals (copiesIn Goods s) (lineAt lines i))) (addSlip slips (getD used 1 0) (slipKey s) i (copiesIn Goods s)) (set used 1 (getD used 1 0 + 1)))
+      outcome (bookedAs (doneAs (withArrivals (copiesIn Goods s) (lineAt lines i))) (pick (articleIs lines (articleIn Goods s) i) 1 0)) (lent (putLine lines i (withArrivals (copiesIn Goods s) (lineAt lines i))) (addSlip slips (getD used 1 0) (slipKey s) i (copiesIn Goods s)) (set used 1 (getD used 1 0 + 1)))
       ≡ enteredAs Goods s (lent lines slips used) i
-  unfolding enteredAs lineAfter lentAfter usedSlips
+  unfolding enteredAs lineAfter agreedAs lentAfter usedSlips
   goods-entered = refl
 
   pub report-entered :
-      outcome (doneAs (withMark (markIn s) (lineAt lines i))) (lent (putLine lines i (withMark (markIn s) (lineAt lines i))) slips used)
+      outcome (bookedAs (doneAs (withMark (markIn s) (lineAt lines i))) (pick (articleIs lines (articleIn Report s) i) 1 0)) (lent (putLine lines i (withMark (markIn s) (lineAt lines i))) slips used)
       ≡ enteredAs Report s (lent lines slips used) i
-  unfolding enteredAs lineAfter lentAfter
+  unfolding enteredAs lineAfter agreedAs lentAfter
   report-entered = refl

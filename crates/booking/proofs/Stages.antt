@@ -20,7 +20,7 @@ use Rattle.record.specs.declared.layout.Kind.the-variants.{Order, Goods, Closin
 use Rattle.record.specs.declared.layout.Kinded.the-variants.{Known, Unknown}
 use Rattle.entry.specs.Stored.{mostArrived, lineAt, keyIs, slipLineAt, slipCopiesAt}
 use Rattle.book.specs.Lent.{Lent, usedLines, usedSlips, lineRoom, slipRoom, sound, findLine, findSlip, openCopies}
-use Rattle.book.specs.Booking.{lineKey, slipKey, schoolIn, copiesIn, nothingToBook, noCopies, noReference, newLineJudged, orderJudged, slipJudged, arrivalJudged, goodsJudged, deliveryJudged, reportJudged, bookJudged, onRoster, fitJudged, outcome, refusedAs, enteredAs, settled, bookAs, bookKind, bookRead, book}
+use Rattle.book.specs.Booking.{lineKey, slipKey, schoolIn, copiesIn, nothingToBook, noCopies, noReference, newLineJudged, orderJudged, slipJudged, arrivalJudged, goodsJudged, deliveryJudged, reportJudged, bookJudged, onRoster, fitJudged, outcome, notBooked, enteredAs, settled, bookAs, bookKind, bookRead, book}
 use Rattle.cells.specs.declared.search.Found.{Found}
 use Rattle.cells.specs.declared.search.Found.the-variants.{At, Nothing}
 use Rattle.book.specs.declared.answer.Refused.{Refused}
@@ -34,17 +34,17 @@ book-sound roster b h = and-right (rosterSound roster) (sound b) h
 
 -- 20, 1 to 10, then by the kind
 module _ (s roster : List ℕ) (b : Lent) where
-  pub book-unsound : rosterSound roster && sound b ≡ false → book s roster b ≡ outcome (refusedAs Unsound) b
+  pub book-unsound : rosterSound roster && sound b ≡ false → book s roster b ≡ outcome (notBooked Unsound) b
   unfolding book
   book-unsound h = rw h
 
   module _ (h : rosterSound roster && sound b ≡ true) where
-    pub book-unread : (r : Refusal) → judged s ≡ ReadRefused r → book s roster b ≡ outcome (refusedAs (Unread r)) b
+    pub book-unread : (r : Refusal) → judged s ≡ ReadRefused r → book s roster b ≡ outcome (notBooked (Unread r)) b
     unfolding book bookRead
     book-unread r e = rw (h, e)
 
     module _ (n : ℕ) (e : judged s ≡ ReadFits n) where
-      pub book-unknown : kindOf s ≡ Unknown → book s roster b ≡ outcome (refusedAs NothingToBook) b
+      pub book-unknown : kindOf s ≡ Unknown → book s roster b ≡ outcome (notBooked NothingToBook) b
       unfolding book bookRead bookKind
       book-unknown k = rw (h, e, k)
 
@@ -54,7 +54,7 @@ module _ (s roster : List ℕ) (b : Lent) where
 
 -- a record of a kind, by what the book says of it
 module _ (k : Kind) (s roster : List ℕ) (b : Lent) where
-  pub refused-so : (r : Refused) → fitJudged k s roster b ≡ Refuse r → bookAs k s roster b ≡ outcome (refusedAs r) b
+  pub refused-so : (r : Refused) → fitJudged k s roster b ≡ Refuse r → bookAs k s roster b ≡ outcome (notBooked r) b
   unfolding bookAs settled
   refused-so r e = rw e
 
@@ -62,7 +62,7 @@ module _ (k : Kind) (s roster : List ℕ) (b : Lent) where
   unfolding bookAs settled
   entered-so i e = rw e
 
-pub closing-so : (s roster : List ℕ) (b : Lent) → bookAs Closing s roster b ≡ outcome (refusedAs NothingToBook) b
+pub closing-so : (s roster : List ℕ) (b : Lent) → bookAs Closing s roster b ≡ outcome (notBooked NothingToBook) b
 unfolding bookAs settled fitJudged nothingToBook
 closing-so s roster b = refl
 

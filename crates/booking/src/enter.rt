@@ -3,33 +3,44 @@ ghost use mathlib.Core.Path.{_≡_};
 ghost use Prim.Native.Nat.{_+_, _*_, _≤_, _<_};
 ghost use lib.ListN.{length, getD};
 ghost use Rattle.record.specs.Layout.{fixedWidth};
-ghost use Rattle.entry.specs.Stored.{lineWidth, slipWidth, mostArrived, lineAt};
+ghost use Rattle.cells.specs.Bytes.{pick};
+ghost use Rattle.entry.specs.Stored.{lineWidth, slipWidth, mostArrived, lineAt, articleIs};
 ghost use Rattle.book.specs.Lent.{mostLines, mostSlips, lent};
 ghost use Rattle.book.specs.Booking.{copiesIn, newLine, markIn, outcome, enteredAs};
 use book::answer::Booked;
 use book::answer::done;
+use book::answer::with_agreed;
 use cells::part;
 use entry::line::Line;
 use entry::line::Mark;
+use entry::stored::article_is;
 use entry::stored::read_line;
 use entry::stored::write_line;
 use entry::stored::write_new_line;
 use entry::stored::write_slip;
 use judging::keys::slip_key;
 use record::layout::Kind;
+use record::places::ARTICLE;
 use record::places::HOLD;
+use record::places::MESSAGE;
 use record::places::ORDER_MEASURE;
 use record::places::ORDER_QUANTITY;
 use record::places::ORDER_REFERENCE;
 use record::places::PARTIES_END;
 use record::places::PRICE;
 use record::places::QUANTITY;
+use record::places::REPORT_ARTICLE;
 use record::places::SENDER;
 use rules::amount::Copies;
 use rules::amount::copies_of;
 
 // The mark that holds an order open.
 const LETTER_J: u8 = 74;
+
+// What a booking tells of the articles.
+const AGREED: u64 = 1;
+
+const NOT_AGREED: u64 = 0;
 
 // A new line: nothing has arrived, no mark.
 fn new_line(copies: Copies) -> Line
@@ -53,6 +64,17 @@ fn mark_in(s: &[u8]) -> Mark
     Mark::Dropped
 }
 
+// Whether a record names the article of the line with an index.
+fn agreed(lines: &[u8], i: usize, article: &[u8]) -> u64
+    requires { ⌜ lineWidth * i + lineWidth ≤ length (now lines) ⌝ }
+    ensures { λ r. ⌜ r ≡ pick (articleIs (now (lines .entry)) (now (article .entry)) i) 1 0 ⌝ }
+{
+    if article_is(lines, i, article) {
+        return AGREED;
+    }
+    NOT_AGREED
+}
+
 // An accepted order adds a line.
 pub fn enter_order(
     s: &[u8],
@@ -73,7 +95,7 @@ pub fn enter_order(
         l,
     );
     used[0] = used[0] + 1;
-    done(l)
+    with_agreed(done(l), AGREED)
 }
 
 // An accepted delivery adds a slip, and its copies to its line.
@@ -88,12 +110,13 @@ pub fn enter_goods(
     ensures { λ r. ⌜ outcome r (lent (now (lines .exit)) (now (slips .exit)) (now (used .exit))) ≡ enteredAs Kind.Goods (now (s .entry)) (lent (now (lines .entry)) (now (slips .entry)) (now (used .entry))) i ⌝ }
 {
     let copies = copies_of(part(s, QUANTITY, PRICE));
+    let same_article = agreed(lines, i, part(s, ARTICLE, QUANTITY));
     let l = read_line(lines, i).with_arrivals(copies);
     write_line(lines, i, l);
     let j = used[1];
     write_slip(slips, j, slip_key(s), i, copies);
     used[1] = j + 1;
-    done(l)
+    with_agreed(done(l), same_article)
 }
 
 // An accepted report sets the mark.
@@ -101,7 +124,8 @@ pub fn enter_report(s: &[u8], lines: &mut [u8], slips: &[u8], used: &[usize; 2],
     requires { ⌜ (fixedWidth Kind.Report ≤ length (now s)) × (lineWidth * i + lineWidth ≤ length (now lines)) ⌝ }
     ensures { λ r. ⌜ outcome r (lent (now (lines .exit)) (now (slips .entry)) (now (used .entry))) ≡ enteredAs Kind.Report (now (s .entry)) (lent (now (lines .entry)) (now (slips .entry)) (now (used .entry))) i ⌝ }
 {
+    let same_article = agreed(lines, i, part(s, REPORT_ARTICLE, MESSAGE));
     let l = read_line(lines, i).with_mark(mark_in(s));
     write_line(lines, i, l);
-    done(l)
+    with_agreed(done(l), same_article)
 }

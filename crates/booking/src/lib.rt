@@ -17,7 +17,7 @@ use crate::enter::enter_report;
 use book::answer::Booked;
 use book::answer::Refused;
 use book::answer::Verdict;
-use book::answer::refuse;
+use book::answer::not_booked;
 use book::seek::is_sound;
 use judging::judge::judge_goods;
 use judging::judge::judge_order;
@@ -40,7 +40,7 @@ fn book_order(
     ensures { λ r. ⌜ outcome r (lent (now (lines .exit)) (now (slips .entry)) (now (used .exit))) ≡ bookAs Kind.Order (now (s .entry)) (now (roster .entry)) (lent (now (lines .entry)) (now (slips .entry)) (now (used .entry))) ⌝ }
 {
     match judge_order(s, roster, lines, slips, used) {
-        Verdict::Refuse(r) => refuse(r),
+        Verdict::Refuse(r) => not_booked(r),
         Verdict::Fits(i) => enter_order(s, lines, slips, used, i),
     }
 }
@@ -57,7 +57,7 @@ fn book_goods(
     ensures { λ r. ⌜ outcome r (lent (now (lines .exit)) (now (slips .exit)) (now (used .exit))) ≡ bookAs Kind.Goods (now (s .entry)) (now (roster .entry)) (lent (now (lines .entry)) (now (slips .entry)) (now (used .entry))) ⌝ }
 {
     match judge_goods(s, roster, lines, slips, used) {
-        Verdict::Refuse(r) => refuse(r),
+        Verdict::Refuse(r) => not_booked(r),
         Verdict::Fits(i) => enter_goods(s, lines, slips, used, i),
     }
 }
@@ -68,7 +68,7 @@ fn book_report(s: &[u8], roster: &[u8], lines: &mut [u8], slips: &[u8], used: &[
     ensures { λ r. ⌜ outcome r (lent (now (lines .exit)) (now (slips .entry)) (now (used .entry))) ≡ bookAs Kind.Report (now (s .entry)) (now (roster .entry)) (lent (now (lines .entry)) (now (slips .entry)) (now (used .entry))) ⌝ }
 {
     match judge_report(s, roster, lines, slips, used) {
-        Verdict::Refuse(r) => refuse(r),
+        Verdict::Refuse(r) => not_booked(r),
         Verdict::Fits(i) => enter_report(s, lines, slips, used, i),
     }
 }
@@ -94,16 +94,16 @@ pub fn book(
     ensures { λ r. ⌜ outcome r (lent (now (lines .exit)) (now (slips .exit)) (now (used .exit))) ≡ book (now (s .entry)) (now (roster .entry)) (lent (now (lines .entry)) (now (slips .entry)) (now (used .entry))) ⌝ }
 {
     if !are_sound(roster, lines, slips, used) {
-        return refuse(Refused::Unsound);
+        return not_booked(Refused::Unsound);
     }
     match judge_record(s) {
-        record::answer::Verdict::Refused(r) => refuse(Refused::Unread(r)),
+        record::answer::Verdict::Refused(r) => not_booked(Refused::Unread(r)),
         record::answer::Verdict::Fits(_) => match kind_of(s) {
-            Kinded::Unknown => refuse(Refused::NothingToBook),
+            Kinded::Unknown => not_booked(Refused::NothingToBook),
             Kinded::Known(k) => match k {
                 Kind::Order => book_order(s, roster, lines, slips, used),
                 Kind::Goods => book_goods(s, roster, lines, slips, used),
-                Kind::Closing => refuse(Refused::NothingToBook),
+                Kind::Closing => not_booked(Refused::NothingToBook),
                 Kind::Report => book_report(s, roster, lines, slips, used),
             },
         },

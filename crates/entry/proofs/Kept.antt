@@ -1,6 +1,6 @@
 -- What a line or a slip written leaves to read: itself as it was written, and every other as it was.
 use mathlib.Core.Path.{_≡_, refl, ap, _∙_}
-use mathlib.Core.List.{List, _++_}
+use mathlib.Core.List.{List, _++_, append-assoc}
 use mathlib.Core.Logic.{_≢_}
 use Prim.Native.Nat.{ℕ, _+_, _*_, _≤_, _<_}
 use native.Mathlib.Nat.{add-zero}
@@ -14,7 +14,7 @@ use Rattle.cells.proofs.Stores.{sets-before, sets-after, sets-in, sets-part, se
 use Rattle.rules.specs.Values.{copies}
 use Rattle.rules.specs.declared.amount.Copies.{Copies}
 use Rattle.entry.specs.Line.{markOf, markByte}
-use Rattle.entry.specs.Stored.{lineWidth, keyWidth, markAt, arrivedAt, slipWidth, slipKeyWidth, slipCopiesPlace, lineAt, lineBytes, putLine, addLine, keyAt, slipKeyAt, slipLineAt, slipCopiesAt, addSlip}
+use Rattle.entry.specs.Stored.{lineWidth, keyWidth, orderedAt, markAt, arrivedAt, slipWidth, slipKeyWidth, slipCopiesPlace, lineAt, lineBytes, putLine, addLine, keyAt, slipKeyAt, slipLineAt, slipCopiesAt, addSlip}
 use Rattle.entry.specs.declared.line.Mark.{Mark}
 use Rattle.entry.specs.declared.line.Mark.the-variants.{Unmarked, Held, Dropped}
 use Rattle.entry.specs.declared.line.Line.{Line}
@@ -35,35 +35,35 @@ SameIn w j s t = (k : ℕ) → k < w → getD s (w * j + k) 0 ≡ getD t (w * j 
 line-ext : (s t : List ℕ) (j : ℕ) → SameIn lineWidth j s t → lineAt s j ≡ lineAt t j
 unfolding lineAt
 line-ext s t j b = λ x. record {
-  ordered = copies (number-ext s t lineWidth j b keyWidth 2 (omega arith) x);
+  ordered = copies (number-ext s t lineWidth j b orderedAt 2 (omega arith) x);
   arrived = copies (number-ext s t lineWidth j b arrivedAt 4 (omega arith) x);
   mark = ap markOf (b markAt (omega arith)) x;
 }
 
--- a line's values written at i, in the seven bytes after its key
+-- a line's values written at i, in the seven bytes after its key and article
 module _ (ls : List ℕ) (i : ℕ) (l : Line) where
   pub put-length : length (putLine ls i l) ≡ length ls
   unfolding putLine
-  put-length = length-sets ls (lineWidth * i + keyWidth) (lineBytes l)
+  put-length = length-sets ls (lineWidth * i + orderedAt) (lineBytes l)
 
   -- no byte of another line changes
   pub put-bytes : (j : ℕ) → j ≢ i → SameIn lineWidth j (putLine ls i l) ls
   unfolding putLine lineBytes leBytes
-  put-bytes j ne k n = sets-aside ls lineWidth i keyWidth (lineBytes l) (omega arith) j k ne n
+  put-bytes j ne k n = sets-aside ls lineWidth i orderedAt (lineBytes l) (omega arith) j k ne n
 
   -- the mark's byte, and the line, are read back
   pub put-mark : lineWidth * i + lineWidth ≤ length ls → getD (putLine ls i l) (lineWidth * i + markAt) 0 ≡ markByte (l .mark)
   unfolding putLine lineBytes leBytes
   put-mark h =
-      let e : lineWidth * i + markAt ≡ lineWidth * i + keyWidth + 2 = omega arith in
-      rw e (sets-in ls (lineWidth * i + keyWidth) (lineBytes l) 2 (omega arith) (omega arith))
+      let e : lineWidth * i + markAt ≡ lineWidth * i + orderedAt + 2 = omega arith in
+      rw e (sets-in ls (lineWidth * i + orderedAt) (lineBytes l) 2 (omega arith) (omega arith))
 
   pub put-back : lineWidth * i + lineWidth ≤ length ls → l .ordered .0 < 65536 → l .arrived .0 < 4294967296 → lineAt (putLine ls i l) i ≡ l
   unfolding lineAt putLine lineBytes leBytes leAt
   put-back h a b =
-      let stored = le-in ls (lineWidth * i + keyWidth) (lineBytes l) (omega arith) in
+      let stored = le-in ls (lineWidth * i + orderedAt) (lineBytes l) (omega arith) in
       λ x. record {
-        ordered = copies ((stored 0 2 (lineWidth * i + keyWidth) (omega arith) (omega arith) ∙ le-back 2 (l .ordered .0) a) x);
+        ordered = copies ((stored 0 2 (lineWidth * i + orderedAt) (omega arith) (omega arith) ∙ le-back 2 (l .ordered .0) a) x);
         arrived = copies ((stored 3 4 (lineWidth * i + arrivedAt) (omega arith) (omega arith) ∙ le-back 4 (l .arrived .0) b) x);
         mark = (ap markOf (put-mark h) ∙ mark-back (l .mark)) x;
       }
@@ -72,49 +72,53 @@ module _ (ls : List ℕ) (i : ℕ) (l : Line) where
   pub put-apart : (j : ℕ) → j ≢ i → lineAt (putLine ls i l) j ≡ lineAt ls j
   put-apart j ne = line-ext (putLine ls i l) ls j (put-bytes j ne)
 
-  -- every key stays, also that of the line itself
+  -- what stands before the values stays, also in the line itself: so every key
+  put-named : (j k : ℕ) → k < orderedAt → Dec (j ≤ i) → getD (putLine ls i l) (lineWidth * j + k) 0 ≡ getD ls (lineWidth * j + k) 0
+  unfolding putLine lineBytes leBytes
+  put-named j k n (yes h) = sets-before ls (lineWidth * i + orderedAt) (lineBytes l) (lineWidth * j + k) (omega arith)
+  put-named j k n (no h) = sets-after ls (lineWidth * i + orderedAt) (lineBytes l) (lineWidth * j + k) (omega arith)
+
   pub put-key : (j : ℕ) → keyAt (putLine ls i l) j ≡ keyAt ls j
-  unfolding keyAt putLine lineBytes leBytes
-  put-key j = part-ext (putLine ls i l) ls (lineWidth * j) keyWidth put-length (λ k n. at k n (decLe j i))
-    where
-      at : (k : ℕ) → k < keyWidth → Dec (j ≤ i) → getD (putLine ls i l) (lineWidth * j + k) 0 ≡ getD ls (lineWidth * j + k) 0
-      at k n (yes h) = sets-before ls (lineWidth * i + keyWidth) (lineBytes l) (lineWidth * j + k) (omega arith)
-      at k n (no h) = sets-after ls (lineWidth * i + keyWidth) (lineBytes l) (lineWidth * j + k) (omega arith)
+  unfolding keyAt
+  put-key j = part-ext (putLine ls i l) ls (lineWidth * j) keyWidth put-length (λ k n. put-named j k (omega arith) (decLe j i))
 
--- a line written at i with its key
-module _ (ls : List ℕ) (i : ℕ) (key : List ℕ) (l : Line) where
-  pub add-length : length (addLine ls i key l) ≡ length ls
+-- a line written at i with its key and article
+module _ (ls : List ℕ) (i : ℕ) (named : List ℕ) (l : Line) where
+  pub add-length : length (addLine ls i named l) ≡ length ls
   unfolding addLine
-  add-length = length-sets ls (lineWidth * i) (key ++ lineBytes l)
+  add-length = length-sets ls (lineWidth * i) (named ++ lineBytes l)
 
-  module _ (wide : length key ≡ keyWidth) where
-    line-width : length (key ++ lineBytes l) ≡ lineWidth
+  module _ (wide : length named ≡ orderedAt) where
+    line-width : length (named ++ lineBytes l) ≡ lineWidth
     unfolding lineBytes leBytes
-    line-width = rw (length-append key (lineBytes l), wide)
+    line-width = rw (length-append named (lineBytes l), wide)
 
     -- no byte of another line changes
-    pub add-bytes : (j : ℕ) → j ≢ i → SameIn lineWidth j (addLine ls i key l) ls
+    pub add-bytes : (j : ℕ) → j ≢ i → SameIn lineWidth j (addLine ls i named l) ls
     unfolding addLine
     add-bytes j ne k n =
-        rw (add-zero (lineWidth * i)) at (sets-aside ls lineWidth i 0 (key ++ lineBytes l) (omega (arith, line-width)) j k ne n)
+        rw (add-zero (lineWidth * i)) at (sets-aside ls lineWidth i 0 (named ++ lineBytes l) (omega (arith, line-width)) j k ne n)
 
-    -- the line and its key are read back
-    pub add-back : lineWidth * i + lineWidth ≤ length ls → l .ordered .0 < 65536 → l .arrived .0 < 4294967296 → lineAt (addLine ls i key l) i ≡ l
+    -- the line is read back
+    pub add-back : lineWidth * i + lineWidth ≤ length ls → l .ordered .0 < 65536 → l .arrived .0 < 4294967296 → lineAt (addLine ls i named l) i ≡ l
     add-back h a b =
-        let room : lineWidth * i + lineWidth ≤ length (sets ls (lineWidth * i) key) = rw length-sets h in
-        rw (← add-line ls i key l wide) (put-back (sets ls (lineWidth * i) key) i l room a b)
+        let room : lineWidth * i + lineWidth ≤ length (sets ls (lineWidth * i) named) = rw length-sets h in
+        rw (← add-line ls i named l wide) (put-back (sets ls (lineWidth * i) named) i l room a b)
 
-    pub add-key : lineWidth * i + lineWidth ≤ length ls → keyAt (addLine ls i key l) i ≡ key
+    -- and its key, which stands first in what it is named by
+    pub add-key : (key article : List ℕ) → named ≡ key ++ article → length key ≡ keyWidth → lineWidth * i + lineWidth ≤ length ls → keyAt (addLine ls i named l) i ≡ key
     unfolding keyAt addLine
-    add-key h = sets-part ls (lineWidth * i) key (lineBytes l) keyWidth wide (rw line-width h)
+    add-key key article e k h =
+        let parts : named ++ lineBytes l ≡ key ++ (article ++ lineBytes l) = ap (λ (n : List ℕ). n ++ lineBytes l) e ∙ append-assoc key article (lineBytes l) in
+        rw parts (sets-part ls (lineWidth * i) key (article ++ lineBytes l) keyWidth k (rw (← parts, line-width) h))
 
     -- every other line and its key stay
-    pub add-apart : (j : ℕ) → j ≢ i → lineAt (addLine ls i key l) j ≡ lineAt ls j
-    add-apart j ne = line-ext (addLine ls i key l) ls j (add-bytes j ne)
+    pub add-apart : (j : ℕ) → j ≢ i → lineAt (addLine ls i named l) j ≡ lineAt ls j
+    add-apart j ne = line-ext (addLine ls i named l) ls j (add-bytes j ne)
 
-    pub add-key-apart : (j : ℕ) → j ≢ i → keyAt (addLine ls i key l) j ≡ keyAt ls j
+    pub add-key-apart : (j : ℕ) → j ≢ i → keyAt (addLine ls i named l) j ≡ keyAt ls j
     unfolding keyAt
-    add-key-apart j ne = front-ext (addLine ls i key l) ls lineWidth j (add-bytes j ne) keyWidth (omega arith) add-length
+    add-key-apart j ne = front-ext (addLine ls i named l) ls lineWidth j (add-bytes j ne) keyWidth (omega arith) add-length
 
 -- a slip written at i
 module _ (ss : List ℕ) (i : ℕ) (key : List ℕ) (line : ℕ) (n : Copies) where

@@ -14,7 +14,7 @@ use Rattle.cells.proofs.Bools.{split, and-left, and-right}
 use Rattle.rules.specs.declared.amount.Copies.{Copies}
 use Rattle.cells.proofs.Stores.{number-ext}
 use Rattle.entry.specs.Line.{markByte, openOf, notFilled, figuresOf}
-use Rattle.entry.specs.Stored.{lineWidth, keyWidth, markAt, arrivedAt, mostCopies, mostArrived, lineAt, schoolIs, openAt, putLine, addLine, lineSound}
+use Rattle.entry.specs.Stored.{lineWidth, orderedAt, markAt, arrivedAt, mostCopies, mostArrived, lineAt, schoolIs, openAt, putLine, addLine, lineSound}
 use Rattle.entry.specs.declared.line.Mark.{Mark}
 use Rattle.entry.specs.declared.line.Mark.the-variants.{Unmarked, Held, Dropped}
 use Rattle.entry.specs.declared.line.Line.{Line}
@@ -37,7 +37,7 @@ mark-small Dropped = refl
 pub sound-bounded : (ls : List ℕ) (i : ℕ) → lineSound ls i ≡ true → Bounded (lineAt ls i)
 unfolding lineSound lineAt
 sound-bounded ls i h =
-    let q : ℕ = leAt ls (lineWidth * i + keyWidth) 2 in
+    let q : ℕ = leAt ls (lineWidth * i + orderedAt) 2 in
     let a : ℕ = leAt ls (lineWidth * i + arrivedAt) 4 in
     let m : Bool = leb (getD ls (lineWidth * i + markAt) 0) 2 in
     let copies = and-left (leb 1 q && leb q mostCopies) (m && leb a mostArrived) h in
@@ -65,7 +65,7 @@ open-bounded ls school i h =
 -- whether a line is sound is read from its own bytes
 sound-ext : (s t : List ℕ) (j : ℕ) → SameIn lineWidth j s t → lineSound s j ≡ lineSound t j
 unfolding lineSound
-sound-ext s t j b = rw (number-ext s t lineWidth j b keyWidth 2 (omega arith), number-ext s t lineWidth j b arrivedAt 4 (omega arith), b markAt (omega arith))
+sound-ext s t j b = rw (number-ext s t lineWidth j b orderedAt 2 (omega arith), number-ext s t lineWidth j b arrivedAt 4 (omega arith), b markAt (omega arith))
 
 -- a line within its bounds is sound where it is written, and every other line stays as it was
 module _ (ls : List ℕ) (i : ℕ) (l : Line) where
@@ -79,11 +79,11 @@ module _ (ls : List ℕ) (i : ℕ) (l : Line) where
   pub put-sound-apart : (j : ℕ) → j ≢ i → lineSound (putLine ls i l) j ≡ lineSound ls j
   put-sound-apart j ne = sound-ext (putLine ls i l) ls j (put-bytes ls i l j ne)
 
-module _ (ls : List ℕ) (i : ℕ) (key : List ℕ) (l : Line) (wide : length key ≡ keyWidth) where
-  pub add-sound : lineWidth * i + lineWidth ≤ length ls → Bounded l → lineSound (addLine ls i key l) i ≡ true
+module _ (ls : List ℕ) (i : ℕ) (named : List ℕ) (l : Line) (wide : length named ≡ orderedAt) where
+  pub add-sound : lineWidth * i + lineWidth ≤ length ls → Bounded l → lineSound (addLine ls i named l) i ≡ true
   add-sound h b =
-      let room : lineWidth * i + lineWidth ≤ length (sets ls (lineWidth * i) key) = rw length-sets h in
-      rw (← add-line ls i key l wide) (put-sound (sets ls (lineWidth * i) key) i l room b)
+      let room : lineWidth * i + lineWidth ≤ length (sets ls (lineWidth * i) named) = rw length-sets h in
+      rw (← add-line ls i named l wide) (put-sound (sets ls (lineWidth * i) named) i l room b)
 
-  pub add-sound-apart : (j : ℕ) → j ≢ i → lineSound (addLine ls i key l) j ≡ lineSound ls j
-  add-sound-apart j ne = sound-ext (addLine ls i key l) ls j (add-bytes ls i key l wide j ne)
+  pub add-sound-apart : (j : ℕ) → j ≢ i → lineSound (addLine ls i named l) j ≡ lineSound ls j
+  add-sound-apart j ne = sound-ext (addLine ls i named l) ls j (add-bytes ls i named l wide j ne)

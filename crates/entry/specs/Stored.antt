@@ -12,12 +12,15 @@ use Rattle.rules.specs.declared.amount.Copies.{Copies}
 use Rattle.entry.specs.Line.{markOf, markByte, figuresOf}
 use Rattle.entry.specs.declared.line.Line.{Line}
 
--- a line is 56 bytes: key 49, Q 2, mark 1, A 4
+-- a line is 56 bytes: key 34, the article of its order with its qualifier 15, Q 2, mark 1, A 4
 abbrev pub lineWidth : ℕ
 lineWidth = 56
 
 abbrev pub keyWidth : ℕ
-keyWidth = 49
+keyWidth = 34
+
+abbrev pub orderedAt : ℕ
+orderedAt = 49
 
 -- school address and qualifier head the key
 abbrev pub schoolWidth : ℕ
@@ -48,26 +51,34 @@ mostArrived = 9999999
 
 unfoldable pub lineAt : List ℕ → ℕ → Line
 lineAt lines i = record {
-  ordered = copies (leAt lines (lineWidth * i + keyWidth) 2);
+  ordered = copies (leAt lines (lineWidth * i + orderedAt) 2);
   arrived = copies (leAt lines (lineWidth * i + arrivedAt) 4);
   mark = markOf (getD lines (lineWidth * i + markAt) 0);
 }
 
--- the seven bytes of a line after its key
+-- the seven bytes of a line after its key and article
 unfoldable pub lineBytes : Line → List ℕ
 lineBytes l = leBytes 2 (l .ordered .0) ++ (markByte (l .mark) ∷ leBytes 4 (l .arrived .0))
 
 unfoldable pub putLine : List ℕ → ℕ → Line → List ℕ
-putLine lines i l = sets lines (lineWidth * i + keyWidth) (lineBytes l)
+putLine lines i l = sets lines (lineWidth * i + orderedAt) (lineBytes l)
 
+-- a line with what it is named by: its key, then its article
 unfoldable pub addLine : List ℕ → ℕ → List ℕ → Line → List ℕ
-addLine lines i key l = sets lines (lineWidth * i) (key ++ lineBytes l)
+addLine lines i named l = sets lines (lineWidth * i) (named ++ lineBytes l)
 
 unfoldable pub keyAt : List ℕ → ℕ → List ℕ
 keyAt lines i = slice (lineWidth * i) (lineWidth * i + keyWidth) lines
 
 unfoldable pub keyIs : List ℕ → List ℕ → ℕ → Bool
 keyIs lines key i = same (keyAt lines i) key
+
+-- the article that was ordered, with its qualifier
+unfoldable pub articleAt : List ℕ → ℕ → List ℕ
+articleAt lines i = slice (lineWidth * i + keyWidth) (lineWidth * i + orderedAt) lines
+
+unfoldable pub articleIs : List ℕ → List ℕ → ℕ → Bool
+articleIs lines article i = same (articleAt lines i) article
 
 -- the line is a school's
 unfoldable pub schoolAt : List ℕ → ℕ → List ℕ
@@ -82,7 +93,7 @@ openAt lines school i = pick (schoolIs lines school i) (figuresOf (lineAt lines 
 
 unfoldable pub lineSound : List ℕ → ℕ → Bool
 lineSound lines i =
-    within 1 mostCopies (leAt lines (lineWidth * i + keyWidth) 2)
+    within 1 mostCopies (leAt lines (lineWidth * i + orderedAt) 2)
     && (leb (getD lines (lineWidth * i + markAt) 0) 2 && leb (leAt lines (lineWidth * i + arrivedAt) 4) mostArrived)
 
 unfoldable pub slipKeyAt : List ℕ → ℕ → List ℕ

@@ -1,4 +1,4 @@
-// The fields of a key: how wide they are, and where they stand in it. Both keys begin with two addresses, each with its qualifier.
+// The fields of keys and articles: how wide they are, and where they stand in an entry. Both keys begin with two addresses, each with its qualifier.
 pub const ADDRESS_WIDTH: usize = 10;
 
 pub const QUALIFIER_WIDTH: usize = 2;
@@ -15,7 +15,7 @@ pub const SECOND_QUALIFIER_AT: usize = 22;
 
 pub const PARTIES_WIDTH: usize = 24;
 
-// A line's key begins with its school, and goes on with the reference, the article and its qualifier.
+// A line's key begins with its school, and ends with the reference. Behind it the line keeps the article of its order and its qualifier.
 pub const SCHOOL_WIDTH: usize = 12;
 
 pub const REFERENCE_AT: usize = 24;
@@ -31,8 +31,8 @@ pub const SLIP_NUMBER_AT: usize = 32;
 
 pub const POSITION_AT: usize = 42;
 
-// A line's key given field by field has seven. The first and the fifth tell most keys apart: schools by the front of their address, references by their last eight bytes.
-pub const KEY_FIELDS: usize = 7;
+// A line's key given field by field has five. The first and the last tell most keys apart: schools by the front of their address, references by their last eight bytes.
+pub const KEY_FIELDS: usize = 5;
 
 pub const SCHOOL_FIELD: usize = 0;
 

@@ -1,9 +1,9 @@
-// Lines and slips in lent bytes. A line is its key, Q, mark and A; a slip is its key, the index of its line and its quantity.
+// Lines and slips in lent bytes. A line is its key, the article that was ordered, Q, mark and A; a slip is its key, the index of its line and its quantity.
 ghost use mathlib.Core.Path.{_≡_};
 ghost use mathlib.Core.List.{_++_};
 ghost use Prim.Native.Nat.{_+_, _*_, _≤_, _<_};
 ghost use lib.ListN.{length};
-ghost use Rattle.entry.specs.Stored.{lineWidth, keyWidth, slipWidth, slipKeyWidth, lineAt, schoolIs, openAt, putLine, addLine, lineSound, slipIs, slipLineAt, slipCopiesAt, addSlip};
+ghost use Rattle.entry.specs.Stored.{lineWidth, orderedAt, slipWidth, slipKeyWidth, lineAt, articleIs, schoolIs, openAt, putLine, addLine, lineSound, slipIs, slipLineAt, slipCopiesAt, addSlip};
 use crate::key::REFERENCE_AT;
 use crate::key::REFERENCE_TELLS;
 use crate::key::SCHOOL_WIDTH;
@@ -20,10 +20,12 @@ use rules::amount::Copies;
 
 pub const LINE_WIDTH: usize = 56;
 
-pub const KEY_WIDTH: usize = 49;
+pub const KEY_WIDTH: usize = 34;
 
 // Where most keys of lines differ: the last eight bytes of the reference.
 pub const KEY_TELLS: usize = REFERENCE_AT + REFERENCE_TELLS;
+
+pub const ORDERED_AT: usize = 49;
 
 pub const MARK_AT: usize = 51;
 
@@ -50,7 +52,7 @@ pub fn read_line(lines: &[u8], i: usize) -> Line
     ensures { λ r. ⌜ r ≡ lineAt (now (lines .entry)) i ⌝ }
 {
     let at = LINE_WIDTH * i;
-    let ordered = Copies(get2(lines, at + KEY_WIDTH));
+    let ordered = Copies(get2(lines, at + ORDERED_AT));
     let mark = mark_of(lines[at + MARK_AT]);
     let arrived = Copies(get4(lines, at + ARRIVED_AT));
     Line {
@@ -60,27 +62,38 @@ pub fn read_line(lines: &[u8], i: usize) -> Line
     }
 }
 
-// The values of the line with an index; its key stays.
+// The values of the line with an index; its key and article stay.
 pub fn write_line(lines: &mut [u8], i: usize, l: Line)
     requires { ⌜ lineWidth * i + lineWidth ≤ length (now lines) ⌝ }
     ensures { λ _. ⌜ now (lines .exit) ≡ putLine (now (lines .entry)) i l ⌝ }
 {
     let at = LINE_WIDTH * i;
     let mark = l.mark;
-    put2(lines, at + KEY_WIDTH, l.ordered.0);
+    put2(lines, at + ORDERED_AT, l.ordered.0);
     lines[at + MARK_AT] = mark_byte(mark);
     put4(lines, at + ARRIVED_AT, l.arrived.0);
 }
 
-// A line with its key, which stands in two parts.
+// A line with its key and article, which are given in two parts.
 pub fn write_new_line(lines: &mut [u8], i: usize, front: &[u8], back: &[u8], l: Line)
-    requires { ⌜ (length (now front ++ now back) ≡ keyWidth) × (lineWidth * i + lineWidth ≤ length (now lines)) ⌝ }
+    requires { ⌜ (length (now front ++ now back) ≡ orderedAt) × (lineWidth * i + lineWidth ≤ length (now lines)) ⌝ }
     ensures { λ _. ⌜ now (lines .exit) ≡ addLine (now (lines .entry)) i (now (front .entry) ++ now (back .entry)) l ⌝ }
 {
     let at = LINE_WIDTH * i;
     paste_at(lines, at, front);
     paste_at(lines, at + front.len(), back);
     write_line(lines, i, l);
+}
+
+// Whether the line with an index was ordered under an article and its qualifier, compared in place.
+pub fn article_is(lines: &[u8], i: usize, article: &[u8]) -> bool
+    requires { ⌜ lineWidth * i + lineWidth ≤ length (now lines) ⌝ }
+    ensures { λ r. ⌜ r ≡ articleIs (now (lines .entry)) (now (article .entry)) i ⌝ }
+{
+    let line = LINE_WIDTH * i;
+    let at = line + KEY_WIDTH;
+    let end = line + ORDERED_AT;
+    same_wide(&lines[at..end], article)
 }
 
 // Whether the line with an index is a school's, compared in place.
@@ -110,7 +123,7 @@ pub fn is_line_sound(lines: &[u8], i: usize) -> bool
     ensures { λ r. ⌜ r ≡ lineSound (now (lines .entry)) i ⌝ }
 {
     let at = LINE_WIDTH * i;
-    let ordered = get2(lines, at + KEY_WIDTH);
+    let ordered = get2(lines, at + ORDERED_AT);
     let mark = lines[at + MARK_AT];
     let arrived = get4(lines, at + ARRIVED_AT);
     ((1 <= ordered) & (ordered <= MOST_COPIES)) & ((mark <= MOST_MARK) & (arrived <= MOST_ARRIVED))

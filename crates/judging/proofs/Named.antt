@@ -1,4 +1,4 @@
--- The keys that a record names are parts of its bytes, and their fields have their lengths.
+-- The keys and the article that a record names are parts of its bytes, and the fields of keys have their lengths.
 use mathlib.Core.Path.{_≡_, _∙_, ap, ap₂, sym, refl}
 use mathlib.Core.Bool.{true}
 use mathlib.Core.List.{List, [], _∷_, _++_, append-assoc, append-nil}
@@ -12,7 +12,7 @@ use Rattle.record.specs.Values.{fieldBytes}
 use Rattle.record.specs.declared.layout.Kind.{Kind}
 use Rattle.record.specs.declared.layout.Kind.the-variants.{Order, Goods, Report}
 use Rattle.book.specs.Asked.{keyWidths, areWide}
-use Rattle.book.specs.Booking.{fieldsIn, keyFields, lineKey, slipKey, schoolIn}
+use Rattle.book.specs.Booking.{fieldsIn, keyFields, lineKey, articleFields, articleIn, slipKey, schoolIn}
 use Rattle.book.proofs.Fields.{fields-wide}
 
 -- a part and the part after it, before a rest
@@ -29,12 +29,29 @@ module _ (k : Kind) (s : List ℕ) {fs : List (List ℕ)} (e : fs ≡ fieldsIn k
   wide-key h = ap (areWide keyWidths) e ∙ h
 
 module _ (s : List ℕ) where
-  -- an order's key stands in it in two parts
-  pub order-parts : {front back : List ℕ} → front ≡ slice 4 28 s → back ≡ slice 36 61 s → front ++ back ≡ lineKey Order s
+  -- the article, with its qualifier
+  pub order-article-is : articleIn Order s ≡ slice 46 61 s
+  unfolding articleIn articleFields joined fieldBytes startOf total layout
+  order-article-is = join 46 13 2 s _ ∙ append-nil _
+
+  pub goods-article-is : articleIn Goods s ≡ slice 60 75 s
+  unfolding articleIn articleFields joined fieldBytes startOf total layout
+  goods-article-is = join 60 13 2 s _ ∙ append-nil _
+
+  pub report-article-is : articleIn Report s ≡ slice 48 63 s
+  unfolding articleIn articleFields joined fieldBytes startOf total layout
+  report-article-is = join 48 13 2 s _ ∙ append-nil _
+
+  -- an order's key and article stand in it in two parts
+  order-key-is : lineKey Order s ≡ slice 4 28 s ++ slice 36 46 s
   unfolding lineKey keyFields joined fieldBytes startOf total layout
+  order-key-is = join 4 10 2 s _ ∙ join 4 12 10 s _ ∙ join 4 22 2 s _ ∙ ap (λ (r : List ℕ). slice 4 28 s ++ r) (append-nil _)
+
+  pub order-parts : {front back : List ℕ} → front ≡ slice 4 28 s → back ≡ slice 36 61 s → front ++ back ≡ lineKey Order s ++ articleIn Order s
   order-parts f b =
       ap₂ (λ (p q : List ℕ). p ++ q) f b
-      ∙ sym (join 4 10 2 s _ ∙ join 4 12 10 s _ ∙ join 4 22 2 s _ ∙ ap (λ (r : List ℕ). slice 4 28 s ++ r) (join 36 10 13 s _ ∙ join 36 23 2 s _ ∙ append-nil _))
+      ∙ ap (λ (r : List ℕ). slice 4 28 s ++ r) (sym (parts-join 36 10 15 s))
+      ∙ sym (ap₂ (λ (p q : List ℕ). p ++ q) order-key-is order-article-is ∙ append-assoc (slice 4 28 s) (slice 36 46 s) (slice 46 61 s))
 
   -- the school heads the key
   pub order-school-is : schoolIn Order s ≡ slice 4 16 s
@@ -57,12 +74,12 @@ module _ (s : List ℕ) where
   -- the lengths of a key's fields in a record that is long enough
   pub order-wide : fixedWidth Order ≤ length s → areWide keyWidths (fieldsIn Order (keyFields Order) s) ≡ true
   unfolding keyFields layout all
-  order-wide h = fields-wide Order s h (1 ∷ 2 ∷ 3 ∷ 4 ∷ 6 ∷ 7 ∷ 8 ∷ []) refl
+  order-wide h = fields-wide Order s h (1 ∷ 2 ∷ 3 ∷ 4 ∷ 6 ∷ []) refl
 
   pub goods-wide : fixedWidth Goods ≤ length s → areWide keyWidths (fieldsIn Goods (keyFields Goods) s) ≡ true
   unfolding keyFields layout all
-  goods-wide h = fields-wide Goods s h (3 ∷ 4 ∷ 1 ∷ 2 ∷ 8 ∷ 9 ∷ 10 ∷ []) refl
+  goods-wide h = fields-wide Goods s h (3 ∷ 4 ∷ 1 ∷ 2 ∷ 8 ∷ []) refl
 
   pub report-wide : fixedWidth Report ≤ length s → areWide keyWidths (fieldsIn Report (keyFields Report) s) ≡ true
   unfolding keyFields layout all
-  report-wide h = fields-wide Report s h (3 ∷ 4 ∷ 1 ∷ 2 ∷ 6 ∷ 7 ∷ 8 ∷ []) refl
+  report-wide h = fields-wide Report s h (3 ∷ 4 ∷ 1 ∷ 2 ∷ 6 ∷ []) refl

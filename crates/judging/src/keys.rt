@@ -8,7 +8,6 @@ ghost use Rattle.record.specs.Layout.{fixedWidth};
 ghost use Rattle.book.specs.Booking.{keyFields, fieldsIn, slipKey};
 use cells::part;
 use entry::key::ADDRESS_WIDTH;
-use entry::key::ARTICLE_WIDTH;
 use entry::key::KEY_FIELDS;
 use entry::key::QUALIFIER_WIDTH;
 use entry::key::REFERENCE_WIDTH;
@@ -19,26 +18,22 @@ use record::places::REFERENCE;
 use record::places::REPORT_REFERENCE;
 use record::places::SENDER;
 
-// The fields of a line's key, by where school, supplier and what is wanted begin.
-fn key_at(s: &[u8], school: usize, supplier: usize, wanted: usize) -> [&[u8]; KEY_FIELDS]
-    requires { ⌜ (school + 12 ≤ length (now s)) × (supplier + 12 ≤ length (now s)) × (wanted + 25 ≤ length (now s)) ⌝ }
-    ensures { λ r. ⌜ map now r ≡ slice school (school + 10) (now (s .entry)) ∷ slice (school + 10) (school + 12) (now (s .entry)) ∷ slice supplier (supplier + 10) (now (s .entry)) ∷ slice (supplier + 10) (supplier + 12) (now (s .entry)) ∷ slice wanted (wanted + 10) (now (s .entry)) ∷ slice (wanted + 10) (wanted + 23) (now (s .entry)) ∷ slice (wanted + 23) (wanted + 25) (now (s .entry)) ∷ [] ⌝ }
+// The fields of a line's key, by where school, supplier and reference begin.
+fn key_at(s: &[u8], school: usize, supplier: usize, reference: usize) -> [&[u8]; KEY_FIELDS]
+    requires { ⌜ (school + 12 ≤ length (now s)) × (supplier + 12 ≤ length (now s)) × (reference + 10 ≤ length (now s)) ⌝ }
+    ensures { λ r. ⌜ map now r ≡ slice school (school + 10) (now (s .entry)) ∷ slice (school + 10) (school + 12) (now (s .entry)) ∷ slice supplier (supplier + 10) (now (s .entry)) ∷ slice (supplier + 10) (supplier + 12) (now (s .entry)) ∷ slice reference (reference + 10) (now (s .entry)) ∷ [] ⌝ }
 {
     let school_qualifier = school + ADDRESS_WIDTH;
     let school_end = school_qualifier + QUALIFIER_WIDTH;
     let supplier_qualifier = supplier + ADDRESS_WIDTH;
     let supplier_end = supplier_qualifier + QUALIFIER_WIDTH;
-    let article = wanted + REFERENCE_WIDTH;
-    let article_qualifier = article + ARTICLE_WIDTH;
-    let end = article_qualifier + QUALIFIER_WIDTH;
+    let reference_end = reference + REFERENCE_WIDTH;
     [
         &s[school..school_qualifier],
         &s[school_qualifier..school_end],
         &s[supplier..supplier_qualifier],
         &s[supplier_qualifier..supplier_end],
-        &s[wanted..article],
-        &s[article..article_qualifier],
-        &s[article_qualifier..end],
+        &s[reference..reference_end],
     ]
 }
 

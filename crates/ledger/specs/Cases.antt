@@ -8,20 +8,20 @@ use Rattle.ledger.specs.Book.{Key, Hold, Line, Rooms, ordered, filled, s
 use Rattle.ledger.specs.Booking.{Fit, order, goods, report, Answer, done, refused, judge, lineAt, numberOf}
 use Rattle.ledger.specs.History.{State, settle, keyOf}
 
--- keys: a school of 12 bytes, then supplier, reference and article
+-- keys: a school of 12 bytes, then supplier and reference
 abbrev pub key : String → String → Key
 key school rest = bytes school ++ bytes rest
 
 abbrev pub ours : Key
-ours = key "43210     VD" "24000     VDA-17      9783442756841EN"
+ours = key "43210     VD" "24000     VDA-17      "
 
 -- the school's line with another reference
 abbrev pub second : Key
-second = key "43210     VD" "24000     VDA-18      9783442756841EN"
+second = key "43210     VD" "24000     VDA-18      "
 
 -- another school with the same reference
 abbrev pub theirs : Key
-theirs = key "43211     VD" "24000     VDA-17      9783442756841EN"
+theirs = key "43211     VD" "24000     VDA-17      "
 
 abbrev pub slip : String → Key
 slip position = bytes "24000     VD43210     VD2024022670012345  " ++ bytes position

@@ -1,4 +1,4 @@
--- The keys of saved entries, each field judged where it stands.
+-- The keys and articles of saved entries, each field judged where it stands.
 use mathlib.Core.Path.{_≡_, _∙_, ap, sym, refl}
 use mathlib.Core.Bool.{Bool, true, false, not, _&&_}
 use mathlib.Core.List.{List, [], _∷_}
@@ -17,9 +17,8 @@ use Rattle.rules.specs.declared.class.Class.the-variants.{Any, Allowed, Digit, 
 use Rattle.rules.specs.declared.rule.Texts.the-variants.{Party, Numbering}
 use Rattle.rules.proofs.Runs.{all-run, run-all}
 use Rattle.record.specs.Layout.{layout, firstBroken}
-use Rattle.record.specs.declared.layout.Kind.the-variants.{Goods}
-use Rattle.book.specs.Booking.{keyFields, slipFields}
-use Rattle.save.specs.Entries.{referenceAt, slipNumberAt, goodsFields, keyKept}
+use Rattle.book.specs.Booking.{keyFields, articleFields, slipFields}
+use Rattle.save.specs.Entries.{referenceAt, slipNumberAt, lineFields, goodsFields, fieldsKept}
 
 -- a run of allowed bytes that is not the whole: not all are allowed
 pub some-barred : {n : ℕ} (s : List ℕ) → n ≡ run (belongs Allowed) s → (n ≡ length s → ⊥) → allOf Allowed s ≡ false
@@ -64,7 +63,7 @@ isQualifier at s = among (slice at (at + 2) s) (texts Party)
 abbrev pub partiesKept : List ℕ → Bool
 partiesKept s = (isAddress 0 s && isQualifier 10 s) && (isAddress 12 s && isQualifier 22 s)
 
--- after them a line's key has reference, article and qualifier
+-- after them a line has reference, article and qualifier
 abbrev lineRest : List ℕ → Bool
 lineRest s = named Any (slice 24 34 s) && (article (slice 47 49 s) (slice 34 47 s) && among (slice 47 49 s) (texts Numbering))
 
@@ -80,8 +79,8 @@ module _ (s : List ℕ) where
       rw (drop-drop 2 10 s, drop-drop 10 12 s, take-from 2 10 s, take-from 10 12 s, take-from 2 22 s)
       (four (isAddress 0 s) (isQualifier 10 s) (isAddress 12 s) (isQualifier 22 s))
 
-  line-fields : eqb (firstBroken (goodsFields (keyFields Goods)) s) 7 ≡ partiesKept s && lineRest s
-  unfolding goodsFields keyFields layout keeps firstBroken
+  line-fields : eqb (firstBroken (goodsFields lineFields) s) 7 ≡ partiesKept s && lineRest s
+  unfolding goodsFields keyFields articleFields layout keeps firstBroken
   line-fields =
       rw (
         drop-drop 2 10 s,
@@ -117,11 +116,11 @@ module _ (s : List ℕ) where
       )
       (seven (isAddress 0 s) (isQualifier 10 s) (isAddress 12 s) (isQualifier 22 s) (isDay (slice 24 32 s)) (named Any (slice 32 42 s)) (ofClass Digit 4 4 (slice 42 46 s)))
 
-  -- the key keeps the rules
-  pub line-judged : keyKept (keyFields Goods) referenceAt s ≡ allOf Allowed s && ((partiesKept s && lineRest s) && not (allOf Blank (slice 24 34 s)))
-  unfolding keyKept keyFields
+  -- the fields of a line, and those of a slip's key, keep the rules
+  pub line-judged : fieldsKept lineFields referenceAt s ≡ allOf Allowed s && ((partiesKept s && lineRest s) && not (allOf Blank (slice 24 34 s)))
+  unfolding fieldsKept keyFields articleFields
   line-judged = ap (λ (b : Bool). allOf Allowed s && (b && not (allOf Blank (slice 24 34 s)))) line-fields
 
-  pub slip-judged : keyKept slipFields slipNumberAt s ≡ allOf Allowed s && ((partiesKept s && slipRest s) && not (allOf Blank (slice 32 42 s)))
-  unfolding keyKept
+  pub slip-judged : fieldsKept slipFields slipNumberAt s ≡ allOf Allowed s && ((partiesKept s && slipRest s) && not (allOf Blank (slice 32 42 s)))
+  unfolding fieldsKept
   slip-judged = ap (λ (b : Bool). allOf Allowed s && (b && not (allOf Blank (slice 32 42 s)))) slip-fields

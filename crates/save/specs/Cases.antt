@@ -116,8 +116,11 @@ loads =
     ∷ (ours ++ (slipOf "24000     VD43210     VD2024022670012345  0001" 0 0 ++ endOf 1 1)) gives 22
     ∷ (ours ++ (slipOf "24000     VD43210     VD2024022670012345  0001" 0 9999 ++ endOf 1 1)) gives 0
     ∷ (ours ++ (slipOf "24000     VD43210     VD2024022670012345  0001" 0 10000 ++ endOf 1 1)) gives 22
-    -- repeated keys
+    -- repeated keys, also under another article or another qualifier alone
     ∷ (ours ++ (ours ++ endOf 2 0)) gives 22
+    ∷ (ours ++ (put 35 "9783442756858" ours ++ endOf 2 0)) gives 22
+    ∷ (ours ++ (put 48 "UM" ours ++ endOf 2 0)) gives 22
+    ∷ (ours ++ (put 25 "A-18" ours ++ endOf 2 0)) gives 0
     ∷ (ours ++ (ourSlip ++ (ourSlip ++ endOf 1 2))) gives 22
     -- more than the rooms hold
     ∷ (ours ++ (theirs ++ (put 1 "43212" ours ++ endOf 3 0))) gives 23

@@ -1,7 +1,7 @@
 -- What the entries of a save hold (RULES 9.1). The body of an entry is given by its index.
 use Prim.Native.Nat.{ℕ, _+_}
 use mathlib.Core.Bool.{Bool, not, _&&_}
-use mathlib.Core.List.{List, map}
+use mathlib.Core.List.{List, _++_, map}
 use lib.Dec.{eqb, leb, ltb}
 use lib.ListN.{length, getD, take}
 use lib.Seq.{slice}
@@ -13,8 +13,8 @@ use Rattle.rules.specs.declared.class.Class.the-variants.{Allowed, Blank}
 use Rattle.record.specs.Layout.{noField, layout, firstBroken}
 use Rattle.record.specs.declared.layout.Field.{Field}
 use Rattle.record.specs.declared.layout.Kind.the-variants.{Goods}
-use Rattle.entry.specs.Stored.{keyWidth, markAt, slipKeyWidth, slipCopiesPlace, mostCopies, mostArrived}
-use Rattle.book.specs.Booking.{keyFields, slipFields}
+use Rattle.entry.specs.Stored.{keyWidth, orderedAt, markAt, slipKeyWidth, slipCopiesPlace, mostCopies, mostArrived}
+use Rattle.book.specs.Booking.{keyFields, articleFields, slipFields}
 
 -- the highest byte that is a mark
 abbrev pub mostMark : ℕ
@@ -34,20 +34,24 @@ slipNumberAt = 32
 abbrev pub nameWidth : ℕ
 nameWidth = 10
 
+-- the fields of a goods record that a line keeps: its key, then its article
+abbrev pub lineFields : List ℕ
+lineFields = keyFields Goods ++ articleFields Goods
+
 -- the fields of a goods record with these indexes
 unfoldable pub goodsFields : List ℕ → List Field
 goodsFields is = map (λ i. getD (layout Goods) i noField) is
 
--- a key is as a goods record could have it (RULES 9.1): allowed bytes, each field by its rule, and something in the name that stands at a place
-unfoldable pub keyKept : List ℕ → ℕ → List ℕ → Bool
-keyKept fields at key =
-    allOf Allowed key && (eqb (firstBroken (goodsFields fields) key) (length fields) && not (allOf Blank (slice at (at + nameWidth) key)))
+-- a line's key and article, or a slip's key, are as a goods record could have them (RULES 9.1): allowed bytes, each field by its rule, and something in the name that stands at a place
+unfoldable pub fieldsKept : List ℕ → ℕ → List ℕ → Bool
+fieldsKept fields at s =
+    allOf Allowed s && (eqb (firstBroken (goodsFields fields) s) (length fields) && not (allOf Blank (slice at (at + nameWidth) s)))
 
--- a line: its key, Q from 1 to 9,999, the mark
+-- a line: its key and article, Q from 1 to 9,999, the mark
 unfoldable pub lineKept : List ℕ → Bool
 lineKept body =
-    keyKept (keyFields Goods) referenceAt (take keyWidth body)
-    && (within 1 mostCopies (leAt body keyWidth 2) && leb (getD body markAt 0) mostMark)
+    fieldsKept lineFields referenceAt (take orderedAt body)
+    && (within 1 mostCopies (leAt body orderedAt 2) && leb (getD body markAt 0) mostMark)
 
 -- a slip and its line are of one school and one supplier; a slip's key begins with the supplier, a line's with the school
 unfoldable pub partiesAgree : List ℕ → List ℕ → Bool
@@ -65,7 +69,7 @@ slipCopies body = leAt body slipCopiesPlace 2
 -- a slip: its key, one of the n lines, quantity from 1 to 9,999
 unfoldable pub slipKept : ℕ → (ℕ → List ℕ) → List ℕ → Bool
 slipKept n line body =
-    keyKept slipFields slipNumberAt (take slipKeyWidth body)
+    fieldsKept slipFields slipNumberAt (take slipKeyWidth body)
     && (within 1 mostCopies (slipCopies body)
     && (ltb (lineIndex body) n && partiesAgree body (line (lineIndex body))))
 

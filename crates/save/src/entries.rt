@@ -4,11 +4,10 @@ ghost use mathlib.Core.List.{[], _∷_};
 ghost use Prim.Native.Nat.{_+_, _*_, _≤_};
 ghost use lib.Dec.{eqb};
 ghost use lib.ListN.{length};
-ghost use Rattle.save.specs.Entries.{referenceAt, slipNumberAt, goodsFields, keyKept, lineKept, partiesAgree, slipKept};
+ghost use Rattle.save.specs.Entries.{referenceAt, slipNumberAt, lineFields, goodsFields, fieldsKept, lineKept, partiesAgree, slipKept};
 ghost use Rattle.save.specs.Saved.{lineBodyWidth, slipBodyWidth, savedLineWidth, lineIn};
 ghost use Rattle.record.specs.Layout.{firstBroken};
-ghost use Rattle.record.specs.declared.layout.Kind.the-variants.{Goods};
-ghost use Rattle.book.specs.Booking.{keyFields, slipFields};
+ghost use Rattle.book.specs.Booking.{slipFields};
 use cells::little::get2;
 use cells::part;
 use cells::same;
@@ -23,10 +22,10 @@ use entry::key::SECOND_PARTY_AT;
 use entry::key::SECOND_QUALIFIER_AT;
 use entry::key::SLIP_NUMBER_AT;
 use entry::stored::ARRIVED_AT;
-use entry::stored::KEY_WIDTH;
 use entry::stored::MARK_AT;
 use entry::stored::MOST_COPIES;
 use entry::stored::MOST_MARK;
+use entry::stored::ORDERED_AT;
 use entry::stored::SLIP_COPIES_AT;
 use entry::stored::SLIP_KEY_WIDTH;
 use entry::stored::SLIP_WIDTH;
@@ -65,19 +64,19 @@ fn are_parties(key: &[u8]) -> bool
             & is_one_of(Texts::Party, part(key, SECOND_QUALIFIER_AT, PARTIES_WIDTH)))
 }
 
-// Whether a line's key keeps the rules: its parties, its reference, which is not blank, and its article with its qualifier.
-fn is_line_key(key: &[u8]) -> bool
-    ensures { λ r. ⌜ r ≡ keyKept (keyFields Goods) referenceAt (now (key .entry)) ⌝ }
+// Whether what a line is named by keeps the rules: its parties, its reference, which is not blank, and its article with its qualifier.
+fn is_line_named(named: &[u8]) -> bool
+    ensures { λ r. ⌜ r ≡ fieldsKept lineFields referenceAt (now (named .entry)) ⌝ }
 {
-    if allowed_run(key) != key.len() {
+    if allowed_run(named) != named.len() {
         return false;
     }
-    if !are_parties(key) {
+    if !are_parties(named) {
         return false;
     }
-    let reference = part(key, REFERENCE_AT, ARTICLE_AT);
-    let article = part(key, ARTICLE_AT, ARTICLE_QUALIFIER_AT);
-    let qualifier = part(key, ARTICLE_QUALIFIER_AT, KEY_WIDTH);
+    let reference = part(named, REFERENCE_AT, ARTICLE_AT);
+    let article = part(named, ARTICLE_AT, ARTICLE_QUALIFIER_AT);
+    let qualifier = part(named, ARTICLE_QUALIFIER_AT, ORDERED_AT);
     (is_named(Class::Any, reference)
         & (is_article(qualifier, article) & is_one_of(Texts::Numbering, qualifier)))
         & !all_of(Class::Blank, reference)
@@ -85,7 +84,7 @@ fn is_line_key(key: &[u8]) -> bool
 
 // Whether a slip's key keeps the rules: its parties, its date, its slip number, which is not blank, and its position.
 fn is_slip_key(key: &[u8]) -> bool
-    ensures { λ r. ⌜ r ≡ keyKept slipFields slipNumberAt (now (key .entry)) ⌝ }
+    ensures { λ r. ⌜ r ≡ fieldsKept slipFields slipNumberAt (now (key .entry)) ⌝ }
 {
     if allowed_run(key) != key.len() {
         return false;
@@ -107,10 +106,10 @@ pub fn is_line_kept(body: &[u8]) -> bool
     requires { ⌜ length (now body) ≡ lineBodyWidth ⌝ }
     ensures { λ r. ⌜ r ≡ lineKept (now (body .entry)) ⌝ }
 {
-    if !is_line_key(part(body, 0, KEY_WIDTH)) {
+    if !is_line_named(part(body, 0, ORDERED_AT)) {
         return false;
     }
-    let ordered = get2(body, KEY_WIDTH);
+    let ordered = get2(body, ORDERED_AT);
     ((1 <= ordered) & (ordered <= MOST_COPIES)) & (body[MARK_AT] <= MOST_MARK)
 }
 

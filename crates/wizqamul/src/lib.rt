@@ -11,6 +11,7 @@ ghost use Rattle.save.specs.Saved.{written as saved, save};
 ghost use Rattle.save.specs.Load.{outcome as loaded, load};
 ghost use Rattle.roster.specs.Schools.{accountTold};
 use book::answer::Booked;
+use book::answer::Told;
 use record::answer::Checked;
 use roster::schools::AccountTold;
 use roster::schools::School;
@@ -65,13 +66,11 @@ pub extern "C" fn wq_line<'a>(
     supplier: &'a [u8],
     supplier_qualifier: &'a [u8],
     reference: &'a [u8],
-    article: &'a [u8],
-    article_qualifier: &'a [u8],
     lines: &[u8],
     slips: &[u8],
     used: &[usize; 2],
-) -> Booked
-    ensures { λ r. ⌜ r ≡ lineAsked (now (school .entry) ∷ now («school_qualifier» .entry) ∷ now (supplier .entry) ∷ now («supplier_qualifier» .entry) ∷ now (reference .entry) ∷ now (article .entry) ∷ now («article_qualifier» .entry) ∷ []) (lent (now (lines .entry)) (now (slips .entry)) (now (used .entry))) ⌝ }
+) -> Told
+    ensures { λ r. ⌜ r ≡ lineAsked (now (school .entry) ∷ now («school_qualifier» .entry) ∷ now (supplier .entry) ∷ now («supplier_qualifier» .entry) ∷ now (reference .entry) ∷ []) (lent (now (lines .entry)) (now (slips .entry)) (now (used .entry))) ⌝ }
 {
     asking::line(
         school,
@@ -79,8 +78,6 @@ pub extern "C" fn wq_line<'a>(
         supplier,
         supplier_qualifier,
         reference,
-        article,
-        article_qualifier,
         lines,
         slips,
         used,

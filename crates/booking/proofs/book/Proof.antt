@@ -14,8 +14,8 @@ use Rattle.booking.proofs.book.Tie as tie
 are-sound-requires : tie.Need-are-sound-requires
 are-sound-requires c κs = search needs
 
-refuse-requires : tie.Need-refuse-requires
-refuse-requires c κs = search needs
+not-booked-requires : tie.Need-not-booked-requires
+not-booked-requires c κs = search needs
 
 same-length : tie.Need-same-length
 same-length c = search needs
@@ -26,7 +26,7 @@ same-length-2 c = search needs
 returns : tie.Need-returns
 returns c =
     let then = c .before in
-    rw (c .refuse .ensures) (sym (book-unsound _ _ _ (is-not (then .before .are-sound .ensures) (then .if1 .taken))))
+    rw (c .not-booked .ensures) (sym (book-unsound _ _ _ (is-not (then .before .are-sound .ensures) (then .if1 .taken))))
 
 judge-record-requires : tie.Need-judge-record-requires
 judge-record-requires c κs = search needs
@@ -34,8 +34,8 @@ judge-record-requires c κs = search needs
 enum-known-r : tie.Need-enum-known-r
 enum-known-r c = search needs
 
-refuse-requires-2 : tie.Need-refuse-requires-2
-refuse-requires-2 c κs = search needs
+not-booked-requires-2 : tie.Need-not-booked-requires-2
+not-booked-requires-2 c κs = search needs
 
 enum-told : tie.Need-enum-told
 enum-told c = search needs
@@ -46,8 +46,8 @@ kind-of-requires c κs = search needs
 enum-told-2 : tie.Need-enum-told-2
 enum-told-2 c = search needs
 
-refuse-requires-3 : tie.Need-refuse-requires-3
-refuse-requires-3 c κs = search needs
+not-booked-requires-3 : tie.Need-not-booked-requires-3
+not-booked-requires-3 c κs = search needs
 
 enum-known-k : tie.Need-enum-known-k
 enum-known-k c = search needs
@@ -85,8 +85,8 @@ book-goods-requires c κs =
 enum-told-5 : tie.Need-enum-told-5
 enum-told-5 c = search needs
 
-refuse-requires-4 : tie.Need-refuse-requires-4
-refuse-requires-4 c κs = search needs
+not-booked-requires-4 : tie.Need-not-booked-requires-4
+not-booked-requires-4 c κs = search needs
 
 enum-told-6 : tie.Need-enum-told-6
 enum-told-6 c = search needs
@@ -114,7 +114,7 @@ returns-2 c =
     let arm = c .before .before in
     let judge = arm .before .before in
     let else = judge .before in
-    rw (c .refuse2 .ensures) (sym (book-unread _ _ _ (is-so (else .before .are-sound .ensures) (else .if1 .left)) _ (sym (judge .judge-record .ensures) ∙ arm .r .given .1)))
+    rw (c .not-booked2 .ensures) (sym (book-unread _ _ _ (is-so (else .before .are-sound .ensures) (else .if1 .left)) _ (sym (judge .judge-record .ensures) ∙ arm .r .given .1)))
 
 same-length-5 : tie.Need-same-length-5
 same-length-5 c = search needs
@@ -130,7 +130,7 @@ returns-3 c =
     let judge = read .before .before in
     let else = judge .before in
     let f = sym (judge .judge-record .ensures) ∙ read .enum-told .given .1 in
-    rw (c .refuse3 .ensures) (sym (book-unknown _ _ _ (is-so (else .before .are-sound .ensures) (else .if1 .left)) _ f (sym (kind .kind-of .ensures) ∙ arm .enum-told2 .given .1)))
+    rw (c .not-booked3 .ensures) (sym (book-unknown _ _ _ (is-so (else .before .are-sound .ensures) (else .if1 .left)) _ f (sym (kind .kind-of .ensures) ∙ arm .enum-told2 .given .1)))
 
 same-length-7 : tie.Need-same-length-7
 same-length-7 c = search needs
@@ -186,7 +186,7 @@ returns-6 c =
     let else = judge .before in
     let g = sym (kind .kind-of .ensures) ∙ known .k .given .1 ∙ ap Known (arm .enum-told5 .given .1) in
     let f = sym (judge .judge-record .ensures) ∙ read .enum-told .given .1 in
-    rw (c .refuse4 .ensures) (sym (book-known _ _ _ (is-so (else .before .are-sound .ensures) (else .if1 .left)) _ f Closing g ∙ closing-so _ _ _))
+    rw (c .not-booked4 .ensures) (sym (book-known _ _ _ (is-so (else .before .are-sound .ensures) (else .if1 .left)) _ f Closing g ∙ closing-so _ _ _))
 
 same-length-13 : tie.Need-same-length-13
 same-length-13 c = search needs
@@ -212,24 +212,24 @@ book-spec =
     tie.close
     (tie.spec
     are-sound-requires
-    refuse-requires
+    not-booked-requires
     same-length
     same-length-2
     returns
     judge-record-requires
     enum-known-r
-    refuse-requires-2
+    not-booked-requires-2
     enum-told
     kind-of-requires
     enum-told-2
-    refuse-requires-3
+    not-booked-requires-3
     enum-known-k
     enum-told-3
     book-order-requires
     enum-told-4
     book-goods-requires
     enum-told-5
-    refuse-requires-4
+    not-booked-requires-4
     enum-told-6
     book-report-requires
     same-length-3

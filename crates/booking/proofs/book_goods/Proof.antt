@@ -13,8 +13,8 @@ judge-goods-requires c κs = search needs
 enum-known-r : tie.Need-enum-known-r
 enum-known-r c = search needs
 
-refuse-requires : tie.Need-refuse-requires
-refuse-requires c κs = search needs
+not-booked-requires : tie.Need-not-booked-requires
+not-booked-requires c κs = search needs
 
 enum-known-i : tie.Need-enum-known-i
 enum-known-i c = search needs
@@ -36,7 +36,7 @@ same-length-2 c = search needs
 returns : tie.Need-returns
 returns c =
     let arm = c .before .before in
-    rw (c .refuse .ensures) (sym (refused-so Goods _ _ _ _ (sym (arm .before .before .judge-goods .ensures) ∙ arm .r .given .1)))
+    rw (c .not-booked .ensures) (sym (refused-so Goods _ _ _ _ (sym (arm .before .before .judge-goods .ensures) ∙ arm .r .given .1)))
 
 same-length-3 : tie.Need-same-length-3
 same-length-3 c = search needs
@@ -56,7 +56,7 @@ book-goods-spec =
     (tie.spec
     judge-goods-requires
     enum-known-r
-    refuse-requires
+    not-booked-requires
     enum-known-i
     enter-goods-requires
     same-length

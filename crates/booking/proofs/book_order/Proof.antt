@@ -13,8 +13,8 @@ judge-order-requires c κs = search needs
 enum-known-r : tie.Need-enum-known-r
 enum-known-r c = search needs
 
-refuse-requires : tie.Need-refuse-requires
-refuse-requires c κs = search needs
+not-booked-requires : tie.Need-not-booked-requires
+not-booked-requires c κs = search needs
 
 enum-known-i : tie.Need-enum-known-i
 enum-known-i c = search needs
@@ -33,7 +33,7 @@ same-length c = search needs
 returns : tie.Need-returns
 returns c =
     let arm = c .before .before in
-    rw (c .refuse .ensures) (sym (refused-so Order _ _ _ _ (sym (arm .before .before .judge-order .ensures) ∙ arm .r .given .1)))
+    rw (c .not-booked .ensures) (sym (refused-so Order _ _ _ _ (sym (arm .before .before .judge-order .ensures) ∙ arm .r .given .1)))
 
 same-length-2 : tie.Need-same-length-2
 same-length-2 c = search needs
@@ -50,7 +50,7 @@ book-order-spec =
     (tie.spec
     judge-order-requires
     enum-known-r
-    refuse-requires
+    not-booked-requires
     enum-known-i
     enter-order-requires
     same-length

@@ -13,8 +13,8 @@ judge-report-requires c κs = search needs
 enum-known-r : tie.Need-enum-known-r
 enum-known-r c = search needs
 
-refuse-requires : tie.Need-refuse-requires
-refuse-requires c κs = search needs
+not-booked-requires : tie.Need-not-booked-requires
+not-booked-requires c κs = search needs
 
 enum-known-i : tie.Need-enum-known-i
 enum-known-i c = search needs
@@ -32,7 +32,7 @@ same-length c = search needs
 returns : tie.Need-returns
 returns c =
     let arm = c .before .before in
-    rw (c .refuse .ensures) (sym (refused-so Report _ _ _ _ (sym (arm .before .before .judge-report .ensures) ∙ arm .r .given .1)))
+    rw (c .not-booked .ensures) (sym (refused-so Report _ _ _ _ (sym (arm .before .before .judge-report .ensures) ∙ arm .r .given .1)))
 
 same-length-2 : tie.Need-same-length-2
 same-length-2 c = search needs
@@ -49,7 +49,7 @@ book-report-spec =
     (tie.spec
     judge-report-requires
     enum-known-r
-    refuse-requires
+    not-booked-requires
     enum-known-i
     enter-report-requires
     same-length

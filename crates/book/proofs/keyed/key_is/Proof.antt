@@ -1,4 +1,4 @@
--- `book::keyed::key_is` meets its contract: the school, the supplier, then what is wanted.
+-- `book::keyed::key_is` meets its contract: the school, the supplier, then the reference.
 use mathlib.Core.Path.{_∙_, refl, sym}
 use native.Mathlib.Omega.{arith}
 use Rattle.cells.proofs.Bools.{is-not, is-so}
@@ -49,30 +49,24 @@ returns-2 c =
     sym (given-key (start .args .t3) (start .pre .1) _ _ (start .pre .0)
     ∙ rw (is-so (first .before .party-is .ensures) (first .if1 .left), is-not (c .before .party-is2 .ensures) (c .if2 .taken)) refl)
 
-add-wanted-is : tie.Need-add-wanted-is
-add-wanted-is c = search needs
+add-field-is : tie.Need-add-field-is
+add-field-is c = search needs
 
-array-copy-out-wanted-is : tie.Need-array-copy-out-wanted-is
-array-copy-out-wanted-is c = search needs
+array-copy-out-field-is : tie.Need-array-copy-out-field-is
+array-copy-out-field-is c = search needs
 
-array-copy-out-wanted-is-2 : tie.Need-array-copy-out-wanted-is-2
-array-copy-out-wanted-is-2 c = search needs
-
-array-copy-out-wanted-is-3 : tie.Need-array-copy-out-wanted-is-3
-array-copy-out-wanted-is-3 c = search needs
-
-wanted-is-requires : tie.Need-wanted-is-requires
-wanted-is-requires c κs =
-    let start = c .before .before .before .before .before .before .before .before .before .before .before .before in
+field-is-requires : tie.Need-field-is-requires
+field-is-requires c κs =
+    let start = c .before .before .before .before .before .before .before .before .before .before in
     let w = given-wide (start .args .t3) (start .pre .1) in
-    (omega arith, w .reference-wide, w .article-wide, w .article-qualified)
+    (omega arith, w .reference-wide)
 
 returns-3 : tie.Need-returns-3
 returns-3 c =
-    let second = c .before .before .before .before in
+    let second = c .before .before in
     let first = second .before .before .before .before in
     let start = first .before .before .before .before .before in
-    c .wanted-is .ensures
+    c .field-is .ensures
     ∙ sym (given-key (start .args .t3) (start .pre .1) _ _ (start .pre .0)
     ∙ rw (is-so (first .before .party-is .ensures) (first .if1 .left), is-so (second .before .party-is2 .ensures) (second .if2 .left)) refl)
 
@@ -90,9 +84,7 @@ key-is-spec =
     array-copy-out-party-is-4
     party-is-requires-2
     returns-2
-    add-wanted-is
-    array-copy-out-wanted-is
-    array-copy-out-wanted-is-2
-    array-copy-out-wanted-is-3
-    wanted-is-requires
+    add-field-is
+    array-copy-out-field-is
+    field-is-requires
     returns-3)

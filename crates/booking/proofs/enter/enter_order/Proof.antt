@@ -3,7 +3,7 @@ use mathlib.Core.Path.{_∙_, ap}
 use native.Mathlib.Omega.{arith}
 use lib.ListN.{length}
 use Rattle.rules.proofs.Parts.{part-most}
-use Rattle.book.proofs.Fields.{order-key-long}
+use Rattle.book.proofs.Fields.{order-named-long}
 use Rattle.judging.proofs.Named.{order-parts}
 use Rattle.judging.proofs.Stages.{order-copies}
 use Rattle.booking.proofs.Entered.{order-entered}
@@ -30,7 +30,7 @@ write-new-line-requires : tie.Need-write-new-line-requires
 write-new-line-requires c κs =
     let start = c .before .before .before .before .before .before .before .before .before in
     let s = start .args .s .now in
-    (ap length (order-parts s (c .before .part2 .ensures) (c .part3 .ensures)) ∙ order-key-long s (start .pre .0), start .pre .1)
+    (ap length (order-parts s (c .before .part2 .ensures) (c .part3 .ensures)) ∙ order-named-long s (start .pre .0), start .pre .1)
 
 element-copy-out-used : tie.Need-element-copy-out-used
 element-copy-out-used c = search needs
@@ -44,19 +44,23 @@ element-write-used c = search needs
 done-requires : tie.Need-done-requires
 done-requires c κs = search needs
 
+with-agreed-requires : tie.Need-with-agreed-requires
+with-agreed-requires c κs = search needs
+
 same-length : tie.Need-same-length
 same-length c = search needs
 
 returns : tie.Need-returns
 returns c =
-    let write = c .before .before .before .before in
+    let told = c .before in
+    let write = told .before .before .before .before in
     let back = write .before in
     let front = back .before in
     let new = front .before .before in
     let number = new .before in
     let copies = order-copies _ (number .copies-of .ensures) (number .before .part .ensures) in
     let s = number .before .before .before .before .before .args .s .now in
-    rw (c .done .ensures, write .write-new-line .ensures, order-parts s (front .part2 .ensures) (back .part3 .ensures), new .new-line .ensures, copies) (order-entered _ _ _ _ _)
+    rw (c .with-agreed .ensures, told .done .ensures, write .write-new-line .ensures, order-parts s (front .part2 .ensures) (back .part3 .ensures), new .new-line .ensures, copies) (order-entered _ _ _ _ _)
 
 pub enter-order-spec : {M : Type 1} → statement M
 enter-order-spec =
@@ -72,5 +76,6 @@ enter-order-spec =
     add-used
     element-write-used
     done-requires
+    with-agreed-requires
     same-length
     returns)

@@ -1,28 +1,26 @@
--- `save::entries::is_line_kept` meets its contract: its key, then its numbers.
+-- `save::entries::is_line_kept` meets its contract: its key and article, then its numbers.
 use mathlib.Core.Path.{_≡_, _∙_}
 use lib.ListN.{take}
 use Rattle.cells.proofs.Bools.{is-not, is-so}
-use Rattle.record.specs.declared.layout.Kind.the-variants.{Goods}
-use Rattle.entry.specs.Stored.{keyWidth}
-use Rattle.book.specs.Booking.{keyFields}
-use Rattle.save.specs.Entries.{referenceAt, keyKept, lineKept}
+use Rattle.entry.specs.Stored.{orderedAt}
+use Rattle.save.specs.Entries.{referenceAt, lineFields, fieldsKept, lineKept}
 use borrow.Author.Needs.{needs}
 use Rattle.save.proofs.entries.is_line_kept.Statement.{statement}
 use Rattle.save.proofs.entries.is_line_kept.Tie as tie
 
--- the key is judged as a line's
-key-here : (c : tie.After-is-line-key) → c .is-line-key .result ≡ keyKept (keyFields Goods) referenceAt (take keyWidth (c .before .before .before .args .body .now))
-key-here c = c .is-line-key .ensures ∙ rw (c .before .part .ensures)
+-- the key and article are judged as a line's
+named-here : (c : tie.After-is-line-named) → c .is-line-named .result ≡ fieldsKept lineFields referenceAt (take orderedAt (c .before .before .before .args .body .now))
+named-here c = c .is-line-named .ensures ∙ rw (c .before .part .ensures)
 
 part-requires : tie.Need-part-requires
 part-requires c κs = search needs
 
-is-line-key-requires : tie.Need-is-line-key-requires
-is-line-key-requires c κs = search needs
+is-line-named-requires : tie.Need-is-line-named-requires
+is-line-named-requires c κs = search needs
 
 returns : tie.Need-returns
 unfolding lineKept
-returns c = rw (is-not (key-here (c .before)) (c .if1 .taken))
+returns c = rw (is-not (named-here (c .before)) (c .if1 .taken))
 
 get2-requires : tie.Need-get2-requires
 get2-requires c κs = search needs
@@ -34,14 +32,14 @@ returns-2 : tie.Need-returns-2
 unfolding lineKept
 returns-2 c =
     let d = c .before .before in
-    rw (is-so (key-here (d .before)) (d .if1 .left), c .before .get2 .ensures .is)
+    rw (is-so (named-here (d .before)) (d .if1 .left), c .before .get2 .ensures .is)
 
 pub is-line-kept-spec : {M : Type 1} → statement M
 is-line-kept-spec =
     tie.close
     (tie.spec
     part-requires
-    is-line-key-requires
+    is-line-named-requires
     returns
     get2-requires
     shared-slice-read-result

@@ -6,13 +6,13 @@ use Rattle.cells.specs.Bytes.{within}
 use Rattle.cells.proofs.Bools.{is-not, is-so}
 use Rattle.entry.specs.Stored.{slipKeyWidth, mostCopies}
 use Rattle.book.specs.Booking.{slipFields}
-use Rattle.save.specs.Entries.{slipNumberAt, keyKept, lineIndex, slipCopies, slipKept}
+use Rattle.save.specs.Entries.{slipNumberAt, fieldsKept, lineIndex, slipCopies, slipKept}
 use borrow.Author.Needs.{needs}
 use Rattle.save.proofs.entries.is_slip_kept.Statement.{statement}
 use Rattle.save.proofs.entries.is_slip_kept.Tie as tie
 
 -- the key is judged as a slip's
-key-here : (c : tie.After-is-slip-key) → c .is-slip-key .result ≡ keyKept slipFields slipNumberAt (take slipKeyWidth (c .before .before .before .before .args .body .now))
+key-here : (c : tie.After-is-slip-key) → c .is-slip-key .result ≡ fieldsKept slipFields slipNumberAt (take slipKeyWidth (c .before .before .before .before .args .body .now))
 key-here c = c .is-slip-key .ensures ∙ rw (c .before .part .ensures)
 
 -- so are the copies

@@ -31,7 +31,7 @@ returns : tie.Need-returns
 unfolding lineIn
 returns c =
     let a = c .before .args in
-    part-is (53 * a .i + 1) (53 * a .i + 1 + 49) (a .s .now) (omega arith) ∙ sym (front-within (a .s .now) (53 * a .i + 1) (53 * a .i + 53) 49 (omega arith))
+    part-is (53 * a .i + 1) (53 * a .i + 1 + 34) (a .s .now) (omega arith) ∙ sym (front-within (a .s .now) (53 * a .i + 1) (53 * a .i + 53) 34 (omega arith))
 
 pub line-key-in-spec : {M : Type 1} → statement M
 line-key-in-spec =

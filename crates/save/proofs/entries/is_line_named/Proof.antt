@@ -1,13 +1,13 @@
--- `save::entries::is_line_key` meets its contract: its parties, then its other fields.
+-- `save::entries::is_line_named` meets its contract: its parties, then its other fields.
 use mathlib.Core.Path.{_≡_, _∙_}
 use Rattle.cells.proofs.Bools.{is-not, is-so}
 use Rattle.save.proofs.Keys.{some-barred, all-allowed, partiesKept, parties-judged, line-judged}
 use borrow.Author.Needs.{needs}
-use Rattle.save.proofs.entries.is_line_key.Statement.{statement}
-use Rattle.save.proofs.entries.is_line_key.Tie as tie
+use Rattle.save.proofs.entries.is_line_named.Statement.{statement}
+use Rattle.save.proofs.entries.is_line_named.Tie as tie
 
 -- the parties are judged where they stand
-parties-here : (c : tie.After-are-parties) → c .are-parties .result ≡ partiesKept (c .before .before .before .before .args .key .now)
+parties-here : (c : tie.After-are-parties) → c .are-parties .result ≡ partiesKept (c .before .before .before .before .args .named .now)
 parties-here c = c .are-parties .ensures ∙ parties-judged _
 
 allowed-run-requires : tie.Need-allowed-run-requires
@@ -63,8 +63,8 @@ returns-3 c =
       f .before .part3 .ensures,
     )
 
-pub is-line-key-spec : {M : Type 1} → statement M
-is-line-key-spec =
+pub is-line-named-spec : {M : Type 1} → statement M
+is-line-named-spec =
     tie.close
     (tie.spec
     allowed-run-requires
