@@ -17,7 +17,7 @@ use Rattle.record.specs.declared.layout.Kind.{Kind}
 use Rattle.record.specs.declared.layout.Kinded.{Kinded}
 use Rattle.record.specs.declared.layout.Kinded.the-variants.{Known, Unknown}
 use Rattle.book.specs.Lent.{Lent, sound}
-use Rattle.book.specs.Booking.{refusedNumber, refusedAs, doneAs, lineAfter, lentAfter, fitJudged, Outcome, outcome, enteredAs, settled, bookAs, bookKind, bookRead, book}
+use Rattle.book.specs.Booking.{refusedNumber, refusedAs, doneAs, bookedAs, notBooked, agreedAs, lineAfter, lentAfter, fitJudged, Outcome, outcome, enteredAs, settled, bookAs, bookKind, bookRead, book}
 use Rattle.book.specs.declared.answer.Refused.{Refused}
 use Rattle.book.specs.declared.answer.Refused.the-variants.{Unsound, Unread, NothingToBook, NoCopies, NoReference, LineExists, LinesUsed, NoLine, SlipBooked, SlipDiffers, SlipsUsed, TooManyArrived, NotOnRoster, CeilingPassed}
 use Rattle.book.specs.declared.answer.Verdict.{Verdict}
@@ -72,12 +72,12 @@ pub record Accepts (s : Met) (b : Lent) : Type 0 where
   pub known : kindOf (s .given) ≡ Known kind
   pub place : ℕ
   pub fits : fitJudged kind (s .given) (s .roster) b ≡ Fits place
-  pub said : bookCall s b .said ≡ doneAs (lineAfter kind (s .given) b place)
+  pub said : bookCall s b .said ≡ bookedAs (doneAs (lineAfter kind (s .given) b place)) (agreedAs kind (s .given) b place)
   pub answer : bookCall s b .said .answer ≡ 0
   pub lent : bookCall s b .lent ≡ lentAfter kind (s .given) b place
 
 -- a refusal
-refuses : (r : Refused) (b : Lent) → Refuses (outcome (refusedAs r) b) b
+refuses : (r : Refused) (b : Lent) → Refuses (outcome (notBooked r) b) b
 unfolding refusedAs
 refuses r b = record { answer = refused-number r; lent = refl }
 

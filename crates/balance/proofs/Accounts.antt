@@ -24,7 +24,7 @@ use Rattle.ledger.proofs.Slips.{slip-once}
 use Rattle.ledger.proofs.Orders.{figureAt, ordersIn, lines-by-orders}
 use Rattle.book.specs.Booking.{noFigures, refusedAs}
 use Rattle.book.specs.Asked.{areWide, lineAsked}
-use Rattle.book.specs.declared.answer.Booked.{Booked as Said}
+use Rattle.book.specs.declared.answer.Told.{Told as Said}
 use Rattle.balance.specs.Met.{Met}
 use Rattle.balance.specs.Calls.{bookCall}
 use Rattle.balance.specs.Told.{told, fitOf}

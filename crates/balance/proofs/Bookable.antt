@@ -26,7 +26,8 @@ use Rattle.balance.specs.Told.{fitAs, fitKind, fitOf}
 use Rattle.balance.specs.Demand3.{isOrder, isDelivery, copiesOn, keyFieldsIn, slipFieldsIn, sameFields, ofSchool}
 use Rattle.balance.proofs.Accepted.{Accepts}
 use Rattle.balance.proofs.Followed.{fit-passed}
-use Rattle.balance.proofs.Keys.{same-fields, front-two, fields-wide}
+use Rattle.book.proofs.Fields.{fields-wide}
+use Rattle.balance.proofs.Keys.{same-fields, schoolWidths, school-front}
 
 pub record Bookable (s : Met) : Type 0 where
   pub fields : ℕ
@@ -78,10 +79,7 @@ keyed s b =
     let f = fitting (b .kind) (s .given) (b .fields) (b .known) (b .read) in
     kind-keyed s (b .kind) (omega (arith, f .wide)) (b .something) (b .known)
 
--- the lengths of a school's fields, and of a slip key's
-abbrev pub schoolWidths : List ℕ
-schoolWidths = 10 ∷ 2 ∷ []
-
+-- the lengths of a slip key's fields
 abbrev pub slipWidths : List ℕ
 slipWidths = 10 ∷ 2 ∷ 10 ∷ 2 ∷ 8 ∷ 10 ∷ 4 ∷ []
 
@@ -95,7 +93,7 @@ module _ (s : Met) (b : Bookable s) where
   unfolding ofSchool schoolIs schoolOf
   school-in school =
       let t = keyed s b in
-      let two = front-two 10 2 (10 ∷ 2 ∷ 10 ∷ 13 ∷ 2 ∷ []) (keyFieldsIn s) (t .wide) in
+      let two = school-front (keyFieldsIn s) (t .wide) in
       rw (same-fields schoolWidths school (take 2 (keyFieldsIn s)) (two .0), two .1, t .key-is) refl
 
   pub key-in : (fields : List (List ℕ)) → sameFields fields (keyFieldsIn s) ≡ areWide keyWidths fields && same (joined fields) (keyIn (fitOf s))

@@ -30,8 +30,8 @@ use Rattle.balance.specs.Demand3.{isOrder, keyFieldsIn, Given, fresh, gi
 use Rattle.balance.specs.Joined.{figuresTold, CeilingHeld}
 use Rattle.balance.proofs.Soundness.{Kept}
 use Rattle.balance.proofs.Accepted.{Refuses, Accepts, refused-or-accepted}
-use Rattle.balance.proofs.Keys.{front-two}
-use Rattle.balance.proofs.Bookable.{schoolWidths, schoolTest, bookable, keyed}
+use Rattle.balance.proofs.Keys.{schoolWidths, school-front}
+use Rattle.balance.proofs.Bookable.{schoolTest, bookable, keyed}
 use Rattle.balance.proofs.Followed.{follows}
 use Rattle.balance.proofs.Opens.{open-told}
 use Rattle.balance.proofs.Exactly.{on-roster-is}
@@ -42,12 +42,12 @@ use Rattle.balance.proofs.Accounts.{summed}
 -- the school's fields of an accepted record have their lengths, and head the key that it is booked with
 module _ (s : Met) (b : Lent) (a : Accepts s b) where
   school-wide : areWide schoolWidths (schoolOf s) ≡ true
-  school-wide = front-two 10 2 (10 ∷ 2 ∷ 10 ∷ 13 ∷ 2 ∷ []) (keyFieldsIn s) (keyed s (bookable s b a) .wide) .0
+  school-wide = school-front (keyFieldsIn s) (keyed s (bookable s b a) .wide) .0
 
   school-key : joined (schoolOf s) ≡ schoolIn (keyIn (fitOf s))
   unfolding schoolIn
   school-key =
-      front-two 10 2 (10 ∷ 2 ∷ 10 ∷ 13 ∷ 2 ∷ []) (keyFieldsIn s) (keyed s (bookable s b a) .wide) .1 ∙ ap (take 12) (keyed s (bookable s b a) .key-is)
+      school-front (keyFieldsIn s) (keyed s (bookable s b a) .wide) .1 ∙ ap (take 12) (keyed s (bookable s b a) .key-is)
 
 -- on lists: an order that the told book accepts, whose school has a ceiling
 on-lists : (rooms : Rooms) (s : Met) (b : Lent) (ceiling : ℕ) → isOrder s ≡ true → (k : Kind) → kindOf (s .given) ≡ Known k

@@ -23,7 +23,7 @@ ours = bytes "43210     " ∷ bytes "VD" ∷ []
 abbrev theirs : List (List ℕ)
 theirs = bytes "43211     " ∷ bytes "VD" ∷ []
 
--- the seven fields of the key that X, Y and Z share
+-- the five fields of the key that X, Y and Z share
 abbrev key : List (List ℕ)
 key =
     bytes "43210     "
@@ -31,8 +31,6 @@ key =
     ∷ bytes "24000     "
     ∷ bytes "VD"
     ∷ bytes "A-17      "
-    ∷ bytes "9783442756841"
-    ∷ bytes "EN"
     ∷ []
 
 -- the samples, each with the roster of the cases

@@ -11,7 +11,7 @@ use lib.Seq.{getD-set-same, getD-set-other}
 use borrow.Author.Tests.{eqb-true, eqb-false}
 use Rattle.cells.proofs.Bools.{split}
 use Rattle.rules.specs.declared.amount.Copies.{Copies}
-use Rattle.entry.specs.Stored.{lineWidth, keyWidth, slipWidth, slipKeyWidth, putLine, addLine, keyAt, slipLineAt, addSlip}
+use Rattle.entry.specs.Stored.{lineWidth, keyWidth, orderedAt, slipWidth, slipKeyWidth, putLine, addLine, keyAt, slipLineAt, addSlip}
 use Rattle.entry.specs.declared.line.Line.{Line as Stored}
 use Rattle.entry.proofs.Kept.{put-length, put-back, put-apart, put-key, add-length, add-back, add-key, add-apart, add-key-apart, slip-length, slip-key, slip-line, slip-copies, slip-key-apart, slip-line-apart, slip-copies-apart}
 use Rattle.entry.proofs.Sound.{Bounded, put-sound, put-sound-apart, add-sound, add-sound-apart}
@@ -69,38 +69,38 @@ module _ (b : Lent) (i : ℕ) (l : Stored) (k : Kept b) (used : i < usedLines b)
         counts = k .counts;
       }
 
--- a line added with its key
-abbrev pub moreLine : Lent → Key → Stored → Lent
-moreLine b key l = record { lines = addLine (b .lines) (usedLines b) key l; slips = b .slips; used = set (b .used) 0 (usedLines b + 1) }
+-- a line added with what it is named by
+abbrev pub moreLine : Lent → List ℕ → Stored → Lent
+moreLine b named l = record { lines = addLine (b .lines) (usedLines b) named l; slips = b .slips; used = set (b .used) 0 (usedLines b + 1) }
 
-module _ (b : Lent) (key : Key) (l : Stored) (k : Kept b) (room : usedLines b < lineRoom b) (wide : length key ≡ keyWidth) (bounded : Bounded l) where
+module _ (b : Lent) (key article : List ℕ) (l : Stored) (k : Kept b) (room : usedLines b < lineRoom b) (wide : length key ≡ keyWidth) (whole : length (key ++ article) ≡ orderedAt) (bounded : Bounded l) where
   pub next : lineWidth * usedLines b + lineWidth ≤ length (b .lines)
   next = line-room b (sound-so b (k .is-sound)) (usedLines b) room
 
-  pub lines-after : usedLines (moreLine b key l) ≡ suc (usedLines b)
+  pub lines-after : usedLines (moreLine b (key ++ article) l) ≡ suc (usedLines b)
   unfolding usedLines
   lines-after = rw (getD-set-same (b .used) 0 (usedLines b + 1) 0 (omega (arith, k .counts))) (add-one (usedLines b))
 
-  pub slips-after : usedSlips (moreLine b key l) ≡ usedSlips b
+  pub slips-after : usedSlips (moreLine b (key ++ article) l) ≡ usedSlips b
   unfolding usedSlips
   slips-after = getD-set-other (b .used) 0 1 (usedLines b + 1) 0 (λ e. omega arith)
 
-  add-other : (x : ℕ) → 0 ≤ x → x < 0 + usedLines b → lineTold (addLine (b .lines) (usedLines b) key l) x ≡ lineTold (b .lines) x
+  add-other : (x : ℕ) → 0 ≤ x → x < 0 + usedLines b → lineTold (addLine (b .lines) (usedLines b) (key ++ article) l) x ≡ lineTold (b .lines) x
   unfolding lineTold
   add-other x a c =
       let ne : x ≢ usedLines b = λ e. omega arith in
-      rw (add-key-apart (b .lines) (usedLines b) key l wide x ne, add-apart (b .lines) (usedLines b) key l wide x ne)
+      rw (add-key-apart (b .lines) (usedLines b) (key ++ article) l whole x ne, add-apart (b .lines) (usedLines b) (key ++ article) l whole x ne)
 
-  add-here : lineTold (addLine (b .lines) (usedLines b) key l) (usedLines b) ≡ lineOf key l
+  add-here : lineTold (addLine (b .lines) (usedLines b) (key ++ article) l) (usedLines b) ≡ lineOf key l
   unfolding lineTold lineOf
   add-here =
-      rw (add-key (b .lines) (usedLines b) key l wide next, add-back (b .lines) (usedLines b) key l wide next (omega (arith, bounded .most)) (omega (arith, bounded .sum)))
+      rw (add-key (b .lines) (usedLines b) key article l wide whole next, add-back (b .lines) (usedLines b) (key ++ article) l whole next (omega (arith, bounded .most)) (omega (arith, bounded .sum)))
 
   -- each line is told as before, and the new one last
-  pub add-lines : told (moreLine b key l) .lines ≡ told b .lines ++ (lineOf key l ∷ [])
+  pub add-lines : told (moreLine b (key ++ article) l) .lines ≡ told b .lines ++ (lineOf key l ∷ [])
   unfolding told
   add-lines =
-      let f = lineTold (addLine (b .lines) (usedLines b) key l) in
+      let f = lineTold (addLine (b .lines) (usedLines b) (key ++ article) l) in
       rw lines-after
       (listed-more f (usedLines b) 0
       ∙ ap₂ (λ (x : List Line) (y : Line). x ++ (y ∷ []))
@@ -108,38 +108,38 @@ module _ (b : Lent) (key : Key) (l : Stored) (k : Kept b) (room : usedLines b < 
       (ap f (omega arith) ∙ add-here))
 
   add-slip-told : (x : ℕ) → 0 ≤ x → x < 0 + usedSlips b
-      → slipTold (addLine (b .lines) (usedLines b) key l) (b .slips) x ≡ slipTold (b .lines) (b .slips) x
+      → slipTold (addLine (b .lines) (usedLines b) (key ++ article) l) (b .slips) x ≡ slipTold (b .lines) (b .slips) x
   unfolding slipTold
   add-slip-told x a c =
       let lt = sound-so b (k .is-sound) .slip-names x (omega arith) in
       let ne : slipLineAt (b .slips) x ≢ usedLines b = λ e. omega arith in
-      rw (add-key-apart (b .lines) (usedLines b) key l wide (slipLineAt (b .slips) x) ne)
+      rw (add-key-apart (b .lines) (usedLines b) (key ++ article) l whole (slipLineAt (b .slips) x) ne)
 
   -- slips name used lines, so each is told as before
-  pub add-slips : told (moreLine b key l) .slips ≡ told b .slips
+  pub add-slips : told (moreLine b (key ++ article) l) .slips ≡ told b .slips
   unfolding told
   add-slips =
       rw slips-after
-      (listed-same (slipTold (addLine (b .lines) (usedLines b) key l) (b .slips)) (slipTold (b .lines) (b .slips)) (usedSlips b) 0 add-slip-told)
+      (listed-same (slipTold (addLine (b .lines) (usedLines b) (key ++ article) l) (b .slips)) (slipTold (b .lines) (b .slips)) (usedSlips b) 0 add-slip-told)
 
-  pub add-rooms : roomsOf (moreLine b key l) ≡ roomsOf b
+  pub add-rooms : roomsOf (moreLine b (key ++ article) l) ≡ roomsOf b
   unfolding roomsOf lineRoom slipRoom
-  add-rooms = rw (add-length (b .lines) (usedLines b) key l)
+  add-rooms = rw (add-length (b .lines) (usedLines b) (key ++ article) l)
 
-  pub add-kept : Kept (moreLine b key l)
+  pub add-kept : Kept (moreLine b (key ++ article) l)
   unfolding lineRoom slipRoom
   add-kept =
       let say = sound-so b (k .is-sound) in
       let n : ℕ = usedLines b in
-      let sized = add-length (b .lines) n key l in
+      let sized = add-length (b .lines) n (key ++ article) l in
       record {
         is-sound =
-            still-sound b (moreLine b key l) (k .is-sound) sized refl (rw (lines-after, sized) room) (rw slips-after (say .slips-fit))
+            still-sound b (moreLine b (key ++ article) l) (k .is-sound) sized refl (rw (lines-after, sized) room) (rw slips-after (say .slips-fit))
             (λ x h. split (eqb x n)
-            (λ e. let d = eqb-true x n e in rw d (add-sound (b .lines) n key l wide next bounded))
+            (λ e. let d = eqb-true x n e in rw d (add-sound (b .lines) n (key ++ article) l whole next bounded))
             (λ e.
             let ne = eqb-false x n e in
-            add-sound-apart (b .lines) n key l wide x ne ∙ say .line-sound x (omega (arith, lines-after))))
+            add-sound-apart (b .lines) n (key ++ article) l whole x ne ∙ say .line-sound x (omega (arith, lines-after))))
             (λ x h. omega (arith, lines-after, say .slip-names x (omega (arith, slips-after))));
         counts = rw (length-set (b .used) 0 (n + 1)) (k .counts);
       }

@@ -22,7 +22,7 @@ use Rattle.ledger.specs.Booking.{newLine as newTold, arrive, tell, changeLine, 
 use Rattle.ledger.specs.History.{keyOf as keyIn}
 use Rattle.ledger.proofs.Parts.{arrive-key, tell-key}
 use Rattle.book.specs.Lent.{Lent, findLine, findSlip}
-use Rattle.book.specs.Booking.{lineKey, slipKey, schoolIn, copiesIn, markIn, bookJudged, newLine, lineAfter, doneAs}
+use Rattle.book.specs.Booking.{lineKey, slipKey, schoolIn, copiesIn, markIn, bookJudged, newLine, lineAfter, doneAs, toldIn}
 use Rattle.book.specs.Asked.{figuresAt, figuresOfKey, lineAsked}
 use Rattle.book.specs.declared.answer.Verdict.the-variants.{Fits}
 use Rattle.cells.specs.declared.search.Found.{Found}
@@ -128,7 +128,7 @@ module _ (s roster : List ℕ) (b : Lent) (i : ℕ) where
 pub booked-tells : BookedTells
 booked-tells s b two e = go (refused-or-accepted s b)
   where
-    go : Refuses (bookCall s b) b ⊎ Accepts s b → lineAsked (keyFieldsIn s) (bookCall s b .lent) ≡ bookCall s b .said
+    go : Refuses (bookCall s b) b ⊎ Accepts s b → lineAsked (keyFieldsIn s) (bookCall s b .lent) ≡ toldIn (bookCall s b .said)
     go (inl r) = absurd (r .answer e)
     go (inr a) =
         let f = follows s b (record { is-sound = a .is-sound; counts = two }) a in
@@ -137,4 +137,4 @@ booked-tells s b two e = go (refused-or-accepted s b)
         let j = fit-passed k (s .given) (s .roster) b (a .place) (a .fits) in
         asked-tells (keyFieldsIn s) (bookCall s b .lent)
         ∙ rw (f .kept .is-sound, t .wide, t .key-is, f .tells)
-        (sym (a .said ∙ said-kind (s .given) (s .roster) b (a .place) k (j .ceiling) (j .judged-fit) ∙ unfold fitOf in unfold fitKind in rw (a .known) refl))
+        (sym (ap toldIn (a .said) ∙ said-kind (s .given) (s .roster) b (a .place) k (j .ceiling) (j .judged-fit) ∙ unfold fitOf in unfold fitKind in rw (a .known) refl))

@@ -16,7 +16,7 @@ use Rattle.record.specs.declared.layout.Kind.{Kind}
 use Rattle.record.specs.declared.layout.Kind.the-variants.{Order, Goods, Closing, Report}
 use Rattle.reader.proofs.Fitting.{Fitting, fitting}
 use Rattle.entry.specs.Line.{withMark, withArrivals}
-use Rattle.entry.specs.Stored.{keyWidth, slipKeyWidth, mostCopies, mostArrived, lineAt, putLine, keyAt, keyIs, slipLineAt, slipCopiesAt}
+use Rattle.entry.specs.Stored.{keyWidth, orderedAt, slipKeyWidth, mostCopies, mostArrived, lineAt, putLine, keyAt, keyIs, slipLineAt, slipCopiesAt}
 use Rattle.entry.specs.declared.line.Mark.{Mark}
 use Rattle.entry.specs.declared.line.Line.{Line as Stored}
 use Rattle.entry.proofs.Sound.{Bounded, sound-bounded}
@@ -27,7 +27,7 @@ use Rattle.roster.specs.declared.Standing.the-variants.{On, Off}
 use Rattle.ledger.specs.Book.{Key, schoolOf, Hold, Line, Slip}
 use Rattle.ledger.specs.Booking.{Fit, order as ordering, goods as arriving, report as telling, done, judge, arrive, tell, changeLine, enter}
 use Rattle.book.specs.Lent.{Lent, usedLines, usedSlips, lineRoom, slipRoom, findLine, findSlip, openCopies}
-use Rattle.book.specs.Booking.{lineKey, slipKey, schoolIn, copiesIn, markIn, nothingToBook, noCopies, noReference, newLineJudged, orderJudged, slipJudged, arrivalJudged, goodsJudged, deliveryJudged, reportJudged, bookJudged, onRoster, fitJudged, newLine, lineAfter, lentAfter}
+use Rattle.book.specs.Booking.{lineKey, articleIn, slipKey, schoolIn, copiesIn, markIn, nothingToBook, noCopies, noReference, newLineJudged, orderJudged, slipJudged, arrivalJudged, goodsJudged, deliveryJudged, reportJudged, bookJudged, onRoster, fitJudged, newLine, lineAfter, lentAfter}
 use Rattle.balance.specs.Met.{Met}
 use Rattle.balance.specs.Calls.{bookCall}
 use Rattle.balance.specs.Told.{reportOf, lineTold, told, roomsOf, holdOf, ceilingIn, fitAs, fitKind, fitOf}
@@ -40,7 +40,7 @@ use Rattle.book.specs.declared.answer.Verdict.the-variants.{Refuse, Fits}
 use Rattle.book.proofs.Sounds.{sound-so}
 use Rattle.balance.proofs.Listings.{change-listed}
 use Rattle.balance.proofs.Soundness.{Kept}
-use Rattle.book.proofs.Fields.{order-key, slip-key-width, order-copies, goods-copies}
+use Rattle.book.proofs.Fields.{order-key, order-named, slip-key-width, order-copies, goods-copies}
 use Rattle.balance.proofs.Accepted.{Accepts}
 use Rattle.balance.proofs.Entered.{lineOf, withLine, put-here, put-other, put-slips, put-rooms, put-kept, moreLine, add-lines, add-slips, add-rooms, add-kept, moreSlip, slip-lines, slip-slips, slip-rooms, slip-kept}
 use Rattle.balance.proofs.Found.{key-told, line-used, goods-passes, report-passes}
@@ -145,20 +145,20 @@ module _ (b : Lent) (key : Key) (i : ℕ) (l : Stored) (h : Line → Line) (k : 
       (lineTold (putLine (b .lines) i l)) (usedLines b) 0 i f (put-here b i l k used bounded ∙ e) (put-other b i l k used bounded)
 
 -- an order is entered
-module _ (b : Lent) (key : Key) (copies : Copies) (k : Kept b) (wide : length key ≡ keyWidth) (least : 1 ≤ copies .0) (most : copies .0 ≤ mostCopies) where
+module _ (b : Lent) (key article : List ℕ) (copies : Copies) (k : Kept b) (wide : length key ≡ keyWidth) (whole : length (key ++ article) ≡ orderedAt) (least : 1 ≤ copies .0) (most : copies .0 ≤ mostCopies) where
   order-entered : (ceiling : ℕ) → findLine b key ≡ Nothing → openCopies b (schoolOf key) + copies .0 ≤ ceiling → usedLines b < lineRoom b
-      → Follows b (ordering key (record { copies = copies .0 }) ceiling) (moreLine b key (newLine copies))
+      → Follows b (ordering key (record { copies = copies .0 }) ceiling) (moreLine b (key ++ article) (newLine copies))
   unfolding enter newLine lineOf reportOf
   order-entered ceiling e below room =
       let bounded : Bounded (newLine copies) = record { least = least; most = most; sum = omega arith } in
       record {
         allowed = order-passes b key (record { copies = copies .0 }) ceiling e below room;
         tells = λ x. record {
-          lines = add-lines b key (newLine copies) k room wide bounded x;
-          slips = add-slips b key (newLine copies) k room wide bounded x;
+          lines = add-lines b key article (newLine copies) k room wide whole bounded x;
+          slips = add-slips b key article (newLine copies) k room wide whole bounded x;
         };
-        kept = add-kept b key (newLine copies) k room wide bounded;
-        rooms = add-rooms b key (newLine copies) k room wide bounded;
+        kept = add-kept b key article (newLine copies) k room wide whole bounded;
+        rooms = add-rooms b key article (newLine copies) k room wide whole bounded;
       }
 
 -- a used line is within its bounds, and stays so with copies that the limit lets pass, and with any mark
@@ -245,7 +245,7 @@ module _ (s roster : List ℕ) (b : Lent) (i n : ℕ) (k : Kept b) where
       let below : openCopies b (schoolOf (lineKey Order s)) + copiesIn Order s .0 ≤ p .ceiling = rw heads at (q .1 .0) in
       let d = q .1 .1 .1 in
       rw (d, p .on-roster)
-      (order-entered b (lineKey Order s) (copiesIn Order s) k (order-key s n fit) (omega arith) (order-copies s n fit) (p .ceiling) (q .0) below (q .1 .1 .0))
+      (order-entered b (lineKey Order s) (articleIn Order s) (copiesIn Order s) k (order-key s n fit) (order-named s n fit) (omega arith) (order-copies s n fit) (p .ceiling) (q .0) below (q .1 .1 .0))
 
   goods-follows : Fitting Goods s n → fitJudged Goods s roster b ≡ Fits i → Follows b (fitAs Goods s roster) (lentAfter Goods s b i)
   unfolding fitAs lentAfter lineAfter bookJudged usedSlips

@@ -1,7 +1,7 @@
 -- The fields of a record that fits: each keeps its rule and has its length; so keys have their widths, and a quantity at most four digits.
-use mathlib.Core.Path.{_≡_, refl}
+use mathlib.Core.Path.{_≡_, _∙_, ap, sym, refl}
 use mathlib.Core.Bool.{Bool, true}
-use mathlib.Core.List.{List, [], _∷_, _++_, map}
+use mathlib.Core.List.{List, [], _∷_, _++_, map, map-append}
 use Prim.Native.Nat.{ℕ, _+_, _^_, _≤_, _<_}
 use native.Mathlib.Nat.{pow-le-pow-right}
 use native.Mathlib.Omega.{arith}
@@ -10,6 +10,7 @@ use lib.Dec.{ltb, lit<}
 use lib.ListN.{length, getD, length-append}
 use Rattle.cells.specs.Bytes.{all, within, joined}
 use Rattle.cells.proofs.Bools.{and-left, and-right}
+use Rattle.cells.proofs.Lists.{joined-append}
 use Rattle.rules.specs.Class.{belongs, allOf, ofClass}
 use Rattle.rules.specs.Number.{number}
 use Rattle.rules.specs.Rule.{keeps}
@@ -65,13 +66,14 @@ pub order-key-long : (s : List ℕ) → fixedWidth Order ≤ length s → length
 unfolding lineKey keyFields layout all
 order-key-long s h = fields-length Order s h (1 ∷ 2 ∷ 3 ∷ 4 ∷ 6 ∷ []) refl
 
-order-article-long : (s : List ℕ) → fixedWidth Order ≤ length s → length (articleIn Order s) ≡ 15
-unfolding articleIn articleFields layout all
-order-article-long s h = fields-length Order s h (7 ∷ 8 ∷ []) refl
+-- what a record's line is named by: the fields of its key and those of its article
+pub named-fields : (k : Kind) (s : List ℕ) → lineKey k s ++ articleIn k s ≡ joined (fieldsIn k (keyFields k ++ articleFields k) s)
+unfolding lineKey articleIn
+named-fields k s = sym (ap joined (map-append _ (keyFields k) (articleFields k)) ∙ joined-append _ _)
 
--- what an order's line is named by
 pub order-named-long : (s : List ℕ) → fixedWidth Order ≤ length s → length (lineKey Order s ++ articleIn Order s) ≡ orderedAt
-order-named-long s h = rw (length-append (lineKey Order s) (articleIn Order s), order-key-long s h, order-article-long s h)
+unfolding keyFields articleFields layout all
+order-named-long s h = ap length (named-fields Order s) ∙ fields-length Order s h (1 ∷ 2 ∷ 3 ∷ 4 ∷ 6 ∷ 7 ∷ 8 ∷ []) refl
 
 pub slip-key-long : (s : List ℕ) → fixedWidth Goods ≤ length s → length (slipKey s) ≡ slipKeyWidth
 unfolding slipKey layout all

@@ -1,15 +1,16 @@
 -- What a line or a slip written leaves to read: itself as it was written, and every other as it was.
-use mathlib.Core.Path.{_≡_, refl, ap, _∙_}
-use mathlib.Core.List.{List, _++_, append-assoc}
+use mathlib.Core.Path.{_≡_, refl, ap, _∙_, sym}
+use mathlib.Core.List.{List, _++_}
 use mathlib.Core.Logic.{_≢_}
 use Prim.Native.Nat.{ℕ, _+_, _*_, _≤_, _<_}
 use native.Mathlib.Nat.{add-zero}
 use native.Mathlib.Decide.{decLe}
 use native.Mathlib.Omega.{arith}
-use lib.ListN.{length, getD, length-append}
-use lib.Seq.{sets, length-sets}
+use lib.ListN.{length, getD, take, length-append}
+use lib.Seq.{slice, sets, length-sets, take-at}
 use Rattle.cells.specs.Little.{leAt, leBytes}
 use Rattle.cells.proofs.Numbers.{le-back}
+use Rattle.cells.proofs.Within.{front-within}
 use Rattle.cells.proofs.Stores.{sets-before, sets-after, sets-in, sets-part, sets-aside, le-in, part-ext, number-ext, front-ext}
 use Rattle.rules.specs.Values.{copies}
 use Rattle.rules.specs.declared.amount.Copies.{Copies}
@@ -39,6 +40,18 @@ line-ext s t j b = λ x. record {
   arrived = copies (number-ext s t lineWidth j b arrivedAt 4 (omega arith) x);
   mark = ap markOf (b markAt (omega arith)) x;
 }
+
+-- what a line is named by: its key, then its article
+unfoldable pub namedAt : List ℕ → ℕ → List ℕ
+namedAt lines i = slice (lineWidth * i) (lineWidth * i + orderedAt) lines
+
+-- so two lines that are named alike have one key
+pub key-named : (ls : List ℕ) (j : ℕ) → keyAt ls j ≡ take keyWidth (namedAt ls j)
+unfolding keyAt namedAt
+key-named ls j = sym (front-within ls (lineWidth * j) (lineWidth * j + orderedAt) keyWidth (omega arith))
+
+key-alike : (s t : List ℕ) (j : ℕ) → namedAt s j ≡ namedAt t j → keyAt s j ≡ keyAt t j
+key-alike s t j e = key-named s j ∙ ap (take keyWidth) e ∙ sym (key-named t j)
 
 -- a line's values written at i, in the seven bytes after its key and article
 module _ (ls : List ℕ) (i : ℕ) (l : Line) where
@@ -72,15 +85,17 @@ module _ (ls : List ℕ) (i : ℕ) (l : Line) where
   pub put-apart : (j : ℕ) → j ≢ i → lineAt (putLine ls i l) j ≡ lineAt ls j
   put-apart j ne = line-ext (putLine ls i l) ls j (put-bytes j ne)
 
-  -- what stands before the values stays, also in the line itself: so every key
-  put-named : (j k : ℕ) → k < orderedAt → Dec (j ≤ i) → getD (putLine ls i l) (lineWidth * j + k) 0 ≡ getD ls (lineWidth * j + k) 0
-  unfolding putLine lineBytes leBytes
-  put-named j k n (yes h) = sets-before ls (lineWidth * i + orderedAt) (lineBytes l) (lineWidth * j + k) (omega arith)
-  put-named j k n (no h) = sets-after ls (lineWidth * i + orderedAt) (lineBytes l) (lineWidth * j + k) (omega arith)
+  -- every key and article stays, also those of the line itself
+  pub put-named : (j : ℕ) → namedAt (putLine ls i l) j ≡ namedAt ls j
+  unfolding namedAt putLine lineBytes leBytes
+  put-named j = part-ext (putLine ls i l) ls (lineWidth * j) orderedAt put-length (λ k n. at k n (decLe j i))
+    where
+      at : (k : ℕ) → k < orderedAt → Dec (j ≤ i) → getD (putLine ls i l) (lineWidth * j + k) 0 ≡ getD ls (lineWidth * j + k) 0
+      at k n (yes h) = sets-before ls (lineWidth * i + orderedAt) (lineBytes l) (lineWidth * j + k) (omega arith)
+      at k n (no h) = sets-after ls (lineWidth * i + orderedAt) (lineBytes l) (lineWidth * j + k) (omega arith)
 
   pub put-key : (j : ℕ) → keyAt (putLine ls i l) j ≡ keyAt ls j
-  unfolding keyAt
-  put-key j = part-ext (putLine ls i l) ls (lineWidth * j) keyWidth put-length (λ k n. put-named j k (omega arith) (decLe j i))
+  put-key j = key-alike (putLine ls i l) ls j (put-named j)
 
 -- a line written at i with its key and article
 module _ (ls : List ℕ) (i : ℕ) (named : List ℕ) (l : Line) where
@@ -105,20 +120,27 @@ module _ (ls : List ℕ) (i : ℕ) (named : List ℕ) (l : Line) where
         let room : lineWidth * i + lineWidth ≤ length (sets ls (lineWidth * i) named) = rw length-sets h in
         rw (← add-line ls i named l wide) (put-back (sets ls (lineWidth * i) named) i l room a b)
 
-    -- and its key, which stands first in what it is named by
-    pub add-key : (key article : List ℕ) → named ≡ key ++ article → length key ≡ keyWidth → lineWidth * i + lineWidth ≤ length ls → keyAt (addLine ls i named l) i ≡ key
-    unfolding keyAt addLine
-    add-key key article e k h =
-        let parts : named ++ lineBytes l ≡ key ++ (article ++ lineBytes l) = ap (λ (n : List ℕ). n ++ lineBytes l) e ∙ append-assoc key article (lineBytes l) in
-        rw parts (sets-part ls (lineWidth * i) key (article ++ lineBytes l) keyWidth k (rw (← parts, line-width) h))
+    -- and what it is named by
+    pub add-named : lineWidth * i + lineWidth ≤ length ls → namedAt (addLine ls i named l) i ≡ named
+    unfolding namedAt addLine
+    add-named h = sets-part ls (lineWidth * i) named (lineBytes l) orderedAt wide (rw line-width h)
 
-    -- every other line and its key stay
+    -- every other line stays, and what it is named by
     pub add-apart : (j : ℕ) → j ≢ i → lineAt (addLine ls i named l) j ≡ lineAt ls j
     add-apart j ne = line-ext (addLine ls i named l) ls j (add-bytes j ne)
 
+    pub add-named-apart : (j : ℕ) → j ≢ i → namedAt (addLine ls i named l) j ≡ namedAt ls j
+    unfolding namedAt
+    add-named-apart j ne = front-ext (addLine ls i named l) ls lineWidth j (add-bytes j ne) orderedAt (omega arith) add-length
+
     pub add-key-apart : (j : ℕ) → j ≢ i → keyAt (addLine ls i named l) j ≡ keyAt ls j
-    unfolding keyAt
-    add-key-apart j ne = front-ext (addLine ls i named l) ls lineWidth j (add-bytes j ne) keyWidth (omega arith) add-length
+    add-key-apart j ne = key-alike (addLine ls i named l) ls j (add-named-apart j ne)
+
+-- its key comes first in what it is named by
+pub add-key : (ls : List ℕ) (i : ℕ) (key article : List ℕ) (l : Line) → length key ≡ keyWidth → length (key ++ article) ≡ orderedAt → lineWidth * i + lineWidth ≤ length ls
+    → keyAt (addLine ls i (key ++ article) l) i ≡ key
+add-key ls i key article l wide whole h =
+    key-named (addLine ls i (key ++ article) l) i ∙ ap (take keyWidth) (add-named ls i (key ++ article) l whole h) ∙ take-at key article keyWidth wide
 
 -- a slip written at i
 module _ (ss : List ℕ) (i : ℕ) (key : List ℕ) (line : ℕ) (n : Copies) where

@@ -6,7 +6,8 @@ use native.Mathlib.Omega.{arith}
 use lib.ListN.{getD, take}
 use lib.Seq.{slice, take-take}
 use Rattle.cells.specs.Little.{leAt}
-use Rattle.entry.specs.Stored.{lineWidth, keyWidth, markAt, slipWidth, slipKeyWidth, slipCopiesPlace, keyAt, slipKeyAt, slipLineAt, slipCopiesAt}
+use Rattle.entry.specs.Stored.{lineWidth, keyWidth, orderedAt, markAt, slipWidth, slipKeyWidth, slipCopiesPlace, keyAt, slipKeyAt, slipLineAt, slipCopiesAt}
+use Rattle.entry.proofs.Kept.{namedAt}
 use Rattle.save.specs.Entries.{partiesAgree, lineIndex, slipCopies}
 use Rattle.save.specs.Saved.{lineBodyWidth, slipBodyWidth, lineBodyAt, slipBodyAt}
 use Rattle.cells.proofs.Within.{byte-within, number-within, front-within}
@@ -18,10 +19,15 @@ module _ (ls : List ℕ) (i : ℕ) where
   unfolding lineBodyAt keyAt
   line-key = front-within ls (lineWidth * i) (lineWidth * i + lineBodyWidth) keyWidth (omega arith)
 
+  -- what it is named by
+  pub line-named : take orderedAt (lineBodyAt ls i) ≡ namedAt ls i
+  unfolding lineBodyAt namedAt
+  line-named = front-within ls (lineWidth * i) (lineWidth * i + lineBodyWidth) orderedAt (omega arith)
+
   -- its copies ordered
-  pub line-copies : leAt (lineBodyAt ls i) keyWidth 2 ≡ leAt ls (lineWidth * i + keyWidth) 2
+  pub line-copies : leAt (lineBodyAt ls i) orderedAt 2 ≡ leAt ls (lineWidth * i + orderedAt) 2
   unfolding lineBodyAt
-  line-copies = number-within ls (lineWidth * i) (lineWidth * i + lineBodyWidth) keyWidth 2 (omega arith)
+  line-copies = number-within ls (lineWidth * i) (lineWidth * i + lineBodyWidth) orderedAt 2 (omega arith)
 
   -- its mark
   pub line-mark : getD (lineBodyAt ls i) markAt 0 ≡ getD ls (lineWidth * i + markAt) 0

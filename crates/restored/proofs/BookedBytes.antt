@@ -19,12 +19,13 @@ use Rattle.record.specs.declared.layout.Kind.{Kind}
 use Rattle.record.specs.declared.layout.Kind.the-variants.{Order, Goods, Closing, Report}
 use Rattle.reader.proofs.Fitting.{Fitting}
 use Rattle.entry.specs.Line.{markByte}
-use Rattle.entry.specs.Stored.{lineWidth, keyWidth, lineBytes, putLine, addLine}
+use Rattle.entry.specs.Stored.{lineWidth, orderedAt, lineBytes, putLine, addLine}
 use Rattle.entry.specs.declared.line.Mark.{Mark}
 use Rattle.entry.specs.declared.line.Mark.the-variants.{Unmarked, Held, Dropped}
 use Rattle.entry.specs.declared.line.Line.{Line}
 use Rattle.book.specs.Lent.{Lent}
-use Rattle.book.specs.Booking.{keyFields, lineKey, lineAfter, lentAfter}
+use Rattle.book.specs.Booking.{keyFields, lineKey, articleFields, articleIn, lineAfter, lentAfter}
+use Rattle.book.proofs.Fields.{named-fields}
 use Rattle.balance.specs.Met.{Met}
 use Rattle.balance.specs.Demand3.{fresh}
 use Rattle.restored.specs.Restored.{Bytes}
@@ -69,14 +70,14 @@ line-bytes l =
 -- a line's figures replaced
 put-bytes : (ls : List ℕ) (i : ℕ) (l : Line) → Bytes ls → Bytes (putLine ls i l)
 unfolding putLine
-put-bytes ls i l e = all-sets (λ b. ltb b 256) ls (lineWidth * i + keyWidth) (lineBytes l) e (line-bytes l)
+put-bytes ls i l e = all-sets (λ b. ltb b 256) ls (lineWidth * i + orderedAt) (lineBytes l) e (line-bytes l)
 
 -- a record of any kind entered
 kind-bytes : (k : Kind) (s : List ℕ) (b : Lent) (i n : ℕ) → Fitting k s n → Bytes (b .lines) → Bytes (lentAfter k s b i .lines)
-unfolding lentAfter addLine lineKey
+unfolding lentAfter addLine
 kind-bytes Order s b i n f e =
-    all-sets (λ b. ltb b 256) (b .lines) (lineWidth * i) (lineKey Order s ++ lineBytes (lineAfter Order s b i)) e
-    (rw (all-append (λ b. ltb b 256) (lineKey Order s) (lineBytes (lineAfter Order s b i)), all-fields (λ b. ltb b 256) Order (keyFields Order) s (all-weaker (belongs Allowed) (λ b. ltb b 256) allowed-byte s (fit-allowed Order s n f)))
+    all-sets (λ b. ltb b 256) (b .lines) (lineWidth * i) ((lineKey Order s ++ articleIn Order s) ++ lineBytes (lineAfter Order s b i)) e
+    (rw (all-append (λ b. ltb b 256) (lineKey Order s ++ articleIn Order s) (lineBytes (lineAfter Order s b i)), named-fields Order s, all-fields (λ b. ltb b 256) Order (keyFields Order ++ articleFields Order) s (all-weaker (belongs Allowed) (λ b. ltb b 256) allowed-byte s (fit-allowed Order s n f)))
     (line-bytes (lineAfter Order s b i)))
 kind-bytes Goods s b i n f e = put-bytes (b .lines) i (lineAfter Goods s b i) e
 kind-bytes Closing s b i n f e = e

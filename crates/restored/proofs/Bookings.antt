@@ -11,15 +11,15 @@ use Rattle.record.specs.declared.layout.Kind.{Kind}
 use Rattle.record.specs.declared.layout.Kind.the-variants.{Order, Goods, Closing, Report}
 use Rattle.reader.proofs.Fitting.{Fitting}
 use Rattle.book.specs.Lent.{Lent, usedLines, usedSlips, sound, findLine, findSlip}
-use Rattle.book.specs.Booking.{lineKey, slipKey, schoolIn, copiesIn, markIn, noCopies, bookJudged, lineAfter, lentAfter}
-use Rattle.book.proofs.Fields.{order-key, slip-key-width, order-copies, goods-copies}
+use Rattle.book.specs.Booking.{lineKey, articleIn, slipKey, schoolIn, copiesIn, markIn, noCopies, bookJudged, lineAfter, lentAfter}
+use Rattle.book.proofs.Fields.{order-key, order-named, slip-key-width, order-copies, goods-copies}
 use Rattle.balance.specs.Demand3.{fresh, giveAll}
 use Rattle.balance.proofs.Followed.{FitPassed, fit-passed, order-fits, delivery-fits, report-fits}
 use Rattle.save.specs.Entries.{linesKept, slipsKept, sumsKept, entriesKept}
 use Rattle.save.specs.Saved.{savedWidth, save}
 use Rattle.restored.specs.Restored.{Orderly}
 use Rattle.restored.specs.Bookings.{bookOf, BookingsOrderly, BookSurvives, StaysOrderly}
-use Rattle.restored.proofs.Keys.{order-key-kept, slip-key-kept, goods-parties}
+use Rattle.restored.proofs.Keys.{order-named-kept, slip-key-kept, goods-parties}
 use Rattle.restored.proofs.Ordered.{Ordered, orderly}
 use Rattle.restored.proofs.Opened.{ordered}
 use Rattle.restored.proofs.Entered.{report-ordered, order-ordered, goods-ordered}
@@ -36,7 +36,7 @@ module _ (s roster : List ℕ) (b : Lent) (i n : ℕ) (o : Ordered b) where
       let q = order-fits b i (schoolIn Order s) (copiesIn Order s) (e .ceiling) (findLine b (lineKey Order s)) (e .judged-fit) in
       let ne = eqb-false (copiesIn Order s .0) 0 (e .copies) in
       let d = q .1 .1 .1 in
-      rw d (order-ordered b (lineKey Order s) (copiesIn Order s) o (order-key s n fit) (omega arith) (order-copies s n fit) (q .0) (q .1 .1 .0) (order-key-kept s n fit (e .referenced)))
+      rw d (order-ordered b (lineKey Order s) (articleIn Order s) (copiesIn Order s) o (order-key s n fit) (order-named s n fit) (omega arith) (order-copies s n fit) (q .0) (q .1 .1 .0) (order-named-kept s n fit (e .referenced)))
 
   -- a delivery
   goods-entered : Fitting Goods s n → FitPassed Goods s roster b i → Ordered (lentAfter Goods s b i)

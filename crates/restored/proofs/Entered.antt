@@ -2,7 +2,7 @@
 use mathlib.Core.Path.{_≡_, _∙_, sym, refl}
 use mathlib.Core.Bool.{true, false}
 use mathlib.Core.Logic.{_≢_}
-use mathlib.Core.List.{List}
+use mathlib.Core.List.{List, _++_}
 use Prim.Native.Nat.{ℕ, suc, _+_, _*_, _≤_, _<_}
 use native.Mathlib.Nat.{zero-add}
 use native.Mathlib.Omega.{arith}
@@ -13,22 +13,21 @@ use Rattle.cells.specs.Bytes.{pick, same}
 use Rattle.cells.specs.Search.{sumFrom}
 use Rattle.cells.proofs.Bools.{split}
 use Rattle.rules.specs.declared.amount.Copies.{Copies}
-use Rattle.record.specs.declared.layout.Kind.the-variants.{Goods}
 use Rattle.entry.specs.Line.{withMark, withArrivals}
-use Rattle.entry.specs.Stored.{keyWidth, slipWidth, slipKeyWidth, mostCopies, mostArrived, lineAt, putLine, addLine, keyAt, keyIs, slipKeyAt, slipIs, slipLineAt, addSlip}
+use Rattle.entry.specs.Stored.{keyWidth, orderedAt, slipWidth, slipKeyWidth, mostCopies, mostArrived, lineAt, putLine, addLine, keyAt, keyIs, slipKeyAt, slipIs, slipLineAt, addSlip}
 use Rattle.entry.specs.declared.line.Mark.{Mark}
 use Rattle.entry.specs.declared.line.Line.{Line}
 use Rattle.entry.proofs.Sound.{Bounded}
-use Rattle.entry.proofs.Kept.{put-key, put-back, put-apart, add-back, add-key, add-apart, add-key-apart, slip-key, slip-line, slip-copies, slip-key-apart, slip-line-apart, slip-copies-apart}
+use Rattle.entry.proofs.Kept.{put-named, put-key, put-back, put-apart, add-back, add-named, add-key, add-apart, add-named-apart, add-key-apart, slip-key, slip-line, slip-copies, slip-key-apart, slip-line-apart, slip-copies-apart}
 use Rattle.book.specs.Lent.{Lent, usedLines, usedSlips, lineRoom, slipRoom, findLine, findSlip}
-use Rattle.book.specs.Booking.{keyFields, slipFields, newLine}
+use Rattle.book.specs.Booking.{slipFields, newLine}
 use Rattle.cells.specs.declared.search.Found.the-variants.{At, Nothing}
 use Rattle.cells.proofs.Searches.{none-at, sum-same, sum-more, sum-none}
 use Rattle.book.proofs.Sounds.{sound-so}
 use Rattle.balance.proofs.Found.{line-used}
 use Rattle.balance.proofs.Entered.{withLine, at, put-kept, moreLine, next, lines-after, slips-after, add-kept, moreSlip, slip-next, lines-as-before, one-slip-more, slip-kept}
 use Rattle.balance.proofs.Followed.{arrivals-bounded, mark-bounded}
-use Rattle.save.specs.Entries.{referenceAt, slipNumberAt, keyKept, partiesAgree}
+use Rattle.save.specs.Entries.{referenceAt, slipNumberAt, lineFields, fieldsKept, partiesAgree}
 use Rattle.restored.proofs.Ordered.{bookedOn, Ordered}
 
 -- no line is found with a key: it is no used line's
@@ -53,7 +52,7 @@ module _ (b : Lent) (key : List ℕ) (m : Mark) (i : ℕ) (o : Ordered b) (f : f
       let here : lineAt (putLine ls i l) i ≡ l = put-back ls i l (at b i l (o .kept) used bounded) (omega (arith, bounded .most)) (omega (arith, bounded .sum)) in
       record {
         kept = put-kept b i l (o .kept) used bounded;
-        line-rules = λ x h. rw (put-key ls i l x) (o .line-rules x h);
+        line-rules = λ x h. rw (put-named ls i l x) (o .line-rules x h);
         line-new = λ e x g h. rw (put-key ls i l e, put-key ls i l x) (o .line-new e x g h);
         slip-rules = o .slip-rules;
         slip-copies = o .slip-copies;
@@ -65,8 +64,8 @@ module _ (b : Lent) (key : List ℕ) (m : Mark) (i : ℕ) (o : Ordered b) (f : f
       }
 
 -- an order is entered: a line is added
-module _ (b : Lent) (key : List ℕ) (copies : Copies) (o : Ordered b) (wide : length key ≡ keyWidth) (least : 1 ≤ copies .0) (most : copies .0 ≤ mostCopies) where
-  pub order-ordered : findLine b key ≡ Nothing → usedLines b < lineRoom b → keyKept (keyFields Goods) referenceAt key ≡ true → Ordered (moreLine b key (newLine copies))
+module _ (b : Lent) (key article : List ℕ) (copies : Copies) (o : Ordered b) (wide : length key ≡ keyWidth) (whole : length (key ++ article) ≡ orderedAt) (least : 1 ≤ copies .0) (most : copies .0 ≤ mostCopies) where
+  pub order-ordered : findLine b key ≡ Nothing → usedLines b < lineRoom b → fieldsKept lineFields referenceAt (key ++ article) ≡ true → Ordered (moreLine b (key ++ article) (newLine copies))
   unfolding newLine bookedOn
   order-ordered f room rules =
       let n : ℕ = usedLines b in
@@ -74,17 +73,18 @@ module _ (b : Lent) (key : List ℕ) (copies : Copies) (o : Ordered b) (wide : l
       let l : Line = newLine copies in
       let k = o .kept in
       let bounded : Bounded l = record { least = least; most = most; sum = omega arith } in
-      let fits = next b key l k room wide bounded in
-      let more : usedLines (moreLine b key l) ≡ suc n = lines-after b key l k room wide bounded in
-      let slips : usedSlips (moreLine b key l) ≡ usedSlips b = slips-after b key l k room wide bounded in
-      let own : keyAt (addLine ls n key l) n ≡ key = add-key ls n key l wide fits in
-      let apart : (x : ℕ) → x ≢ n → keyAt (addLine ls n key l) x ≡ keyAt ls x = add-key-apart ls n key l wide in
-      let names = sound-so b (k .is-sound) .slip-names in
+      let names : List ℕ = key ++ article in
+      let fits = next b key article l k room wide whole bounded in
+      let more : usedLines (moreLine b names l) ≡ suc n = lines-after b key article l k room wide whole bounded in
+      let slips : usedSlips (moreLine b names l) ≡ usedSlips b = slips-after b key article l k room wide whole bounded in
+      let own : keyAt (addLine ls n names l) n ≡ key = add-key ls n key article l wide whole fits in
+      let apart : (x : ℕ) → x ≢ n → keyAt (addLine ls n names l) x ≡ keyAt ls x = add-key-apart ls n names l whole in
+      let lined = sound-so b (k .is-sound) .slip-names in
       record {
-        kept = add-kept b key l k room wide bounded;
+        kept = add-kept b key article l k room wide whole bounded;
         line-rules = λ x h. split (eqb x n)
-            (λ e. let d = eqb-true x n e in rw (d, own) rules)
-            (λ e. let ne = eqb-false x n e in rw (apart x ne) (o .line-rules x (omega (arith, more))));
+            (λ e. let d = eqb-true x n e in rw (d, add-named ls n names l whole fits) rules)
+            (λ e. let ne = eqb-false x n e in rw (add-named-apart ls n names l whole x ne) (o .line-rules x (omega (arith, more))));
         line-new = λ e x g h. split (eqb x n)
             (λ t. let d = eqb-true x n t in rw (d, own, apart e (λ q. omega arith)) (line-is-new b key f e (omega arith)))
             (λ t. let ne = eqb-false x n t in rw (apart x ne, apart e (λ q. omega (arith, more))) (o .line-new e x g (omega (arith, more))));
@@ -92,15 +92,15 @@ module _ (b : Lent) (key : List ℕ) (copies : Copies) (o : Ordered b) (wide : l
         slip-copies = λ j h. o .slip-copies j (omega (arith, slips));
         slip-parties = λ j h.
             let u : j < usedSlips b = omega (arith, slips) in
-            rw (apart (slipLineAt (b .slips) j) (λ q. omega (arith, names j u))) (o .slip-parties j u);
+            rw (apart (slipLineAt (b .slips) j) (λ q. omega (arith, lined j u))) (o .slip-parties j u);
         slip-new = λ e j g h. o .slip-new e j g (omega (arith, slips));
         sums = λ x h. split (eqb x n)
             (λ e.
             let d = eqb-true x n e in
-            rw (d, slips, add-back ls n key l wide fits (omega arith) (omega arith))
+            rw (d, slips, add-back ls n names l whole fits (omega arith) (omega arith))
             (sym (sum-none (bookedOn (b .slips) n) (usedSlips b) 0
-            (λ j a c. rw (ne-eqb (slipLineAt (b .slips) j) n (λ q. omega (arith, names j (omega arith))))))))
-            (λ e. let ne = eqb-false x n e in rw (slips, add-apart ls n key l wide x ne) (o .sums x (omega (arith, more))));
+            (λ j a c. rw (ne-eqb (slipLineAt (b .slips) j) n (λ q. omega (arith, lined j (omega arith))))))))
+            (λ e. let ne = eqb-false x n e in rw (slips, add-apart ls n names l whole x ne) (o .sums x (omega (arith, more))));
       }
 
 -- the copies that slips have on a line, with one slip more
@@ -120,7 +120,7 @@ module _ (ss : List ℕ) (m : ℕ) (key : List ℕ) (i : ℕ) (copies : Copies) 
 -- a delivery is entered: a slip is added, and its copies to its line
 module _ (b : Lent) (key slip : List ℕ) (copies : Copies) (i : ℕ) (o : Ordered b) (wide : length slip ≡ slipKeyWidth) (least : 1 ≤ copies .0) (few : copies .0 ≤ mostCopies) where
   pub goods-ordered : findSlip b slip ≡ Nothing → findLine b key ≡ At i → lineAt (b .lines) i .arrived .0 + copies .0 ≤ mostArrived → usedSlips b < slipRoom b
-      → keyKept slipFields slipNumberAt slip ≡ true → partiesAgree slip key ≡ true
+      → fieldsKept slipFields slipNumberAt slip ≡ true → partiesAgree slip key ≡ true
       → Ordered (moreSlip (withLine b i (withArrivals copies (lineAt (b .lines) i))) slip i copies)
   unfolding usedLines usedSlips slipRoom withArrivals
   goods-ordered f g most room rules agree =
@@ -142,7 +142,7 @@ module _ (b : Lent) (key slip : List ℕ) (copies : Copies) (i : ℕ) (o : Order
       let apart : (x : ℕ) → x ≢ m → slipKeyAt (addSlip ss m slip i copies) x ≡ slipKeyAt ss x = slip-key-apart ss m slip i copies wide in
       record {
         kept = slip-kept c slip i copies k room wide used (omega arith);
-        line-rules = λ x h. rw (put-key ls i l x) (o .line-rules x (omega (arith, lines)));
+        line-rules = λ x h. rw (put-named ls i l x) (o .line-rules x (omega (arith, lines)));
         line-new = λ e x u h. rw (put-key ls i l e, put-key ls i l x) (o .line-new e x u (omega (arith, lines)));
         slip-rules = λ j h. split (eqb j m)
             (λ e. let d = eqb-true j m e in rw (d, new) rules)

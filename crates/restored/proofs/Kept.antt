@@ -10,18 +10,17 @@ use borrow.Author.Tests.{leb-true, ltb-true, le-leb, lt-ltb}
 use Rattle.cells.specs.Bytes.{within}
 use Rattle.cells.specs.Little.{leAt}
 use Rattle.cells.proofs.Bools.{and-left, and-right}
-use Rattle.record.specs.declared.layout.Kind.the-variants.{Goods}
-use Rattle.entry.specs.Stored.{lineWidth, keyWidth, markAt, arrivedAt, slipKeyWidth, mostCopies, mostArrived, lineAt, lineSound, slipLineAt, slipSound}
+use Rattle.entry.specs.Stored.{lineWidth, keyWidth, orderedAt, markAt, arrivedAt, slipKeyWidth, mostCopies, mostArrived, lineAt, lineSound, slipLineAt, slipSound}
 use Rattle.book.specs.Lent.{Lent, usedLines, usedSlips, lineRoom, slipRoom, sound, roomsSound}
-use Rattle.book.specs.Booking.{keyFields, slipFields}
+use Rattle.book.specs.Booking.{slipFields}
 use Rattle.cells.proofs.Searches.{all-at, each-place}
-use Rattle.save.specs.Entries.{referenceAt, slipNumberAt, keyKept, lineKept, slipKept, partiesAgree, lineIndex, slipCopies, isFirst, arrivedOn, linesKept, slipsKept, sumsKept, entriesKept}
+use Rattle.save.specs.Entries.{referenceAt, slipNumberAt, lineFields, fieldsKept, lineKept, slipKept, partiesAgree, lineIndex, slipCopies, isFirst, arrivedOn, linesKept, slipsKept, sumsKept, entriesKept}
 use Rattle.save.specs.Saved.{lineBodyAt, slipBodyAt}
 use Rattle.restored.proofs.Bodies.{line-copies, line-mark, slip-line}
 
 -- what the rules of a save say of a slip: its key keeps them, it has copies, and it names one of n lines, of its school and supplier
 pub record SlipKept (n : ℕ) (line : ℕ → List ℕ) (body : List ℕ) : Type 0 where
-  pub key : keyKept slipFields slipNumberAt (take slipKeyWidth body) ≡ true
+  pub key : fieldsKept slipFields slipNumberAt (take slipKeyWidth body) ≡ true
   pub copies : within 1 mostCopies (slipCopies body) ≡ true
   pub names : lineIndex body < n
   pub parties : partiesAgree body (line (lineIndex body)) ≡ true
@@ -30,7 +29,7 @@ pub record SlipKept (n : ℕ) (line : ℕ → List ℕ) (body : List ℕ) : Type
 slip-so : (n : ℕ) (line : ℕ → List ℕ) (body : List ℕ) → slipKept n line body ≡ true → SlipKept n line body
 unfolding slipKept
 slip-so n line body h =
-    let key : Bool = keyKept slipFields slipNumberAt (take slipKeyWidth body) in
+    let key : Bool = fieldsKept slipFields slipNumberAt (take slipKeyWidth body) in
     let copies : Bool = within 1 mostCopies (slipCopies body) in
     let named : Bool = ltb (lineIndex body) n in
     let agreed : Bool = partiesAgree body (line (lineIndex body)) in
@@ -100,11 +99,11 @@ unfolding lineSound lineKept lineAt
 line-sound lines i h k =
     let at : ℕ = lineWidth * i in
     let body : List ℕ = lineBodyAt lines i in
-    let key : Bool = keyKept (keyFields Goods) referenceAt (take keyWidth body) in
-    let copies : Bool = within 1 mostCopies (leAt body keyWidth 2) in
+    let named : Bool = fieldsKept lineFields referenceAt (take orderedAt body) in
+    let copies : Bool = within 1 mostCopies (leAt body orderedAt 2) in
     let mark : Bool = leb (getD body markAt 0) 2 in
-    let r : copies && mark ≡ true = and-right key (copies && mark) h in
-    let c : within 1 mostCopies (leAt lines (at + keyWidth) 2) ≡ true = rw (line-copies lines i) at (and-left copies mark r) in
+    let r : copies && mark ≡ true = and-right named (copies && mark) h in
+    let c : within 1 mostCopies (leAt lines (at + orderedAt) 2) ≡ true = rw (line-copies lines i) at (and-left copies mark r) in
     let m : leb (getD lines (at + markAt) 0) 2 ≡ true = rw (line-mark lines i) at (and-right copies mark r) in
     rw (c, m, le-leb (leAt lines (at + arrivedAt) 4) mostArrived k)
 

@@ -1,4 +1,4 @@
--- The keys that a booked record gives keep the rules of a save.
+-- The keys and the article that a booked record gives keep the rules of a save.
 use mathlib.Core.Path.{_≡_, _∙_, refl}
 use mathlib.Core.Bool.{Bool, true, false}
 use mathlib.Core.List.{List, [], _∷_, _++_}
@@ -25,9 +25,10 @@ use Rattle.record.specs.declared.layout.Field.{Field}
 use Rattle.record.specs.declared.layout.Kind.{Kind}
 use Rattle.record.specs.declared.layout.Kind.the-variants.{Order, Goods}
 use Rattle.reader.proofs.Fitting.{Fitting}
-use Rattle.book.specs.Booking.{keyFields, lineKey, slipFields, slipKey, nothingToBook, noReference, fieldsIn}
+use Rattle.book.specs.Booking.{keyFields, lineKey, articleFields, articleIn, slipFields, slipKey, nothingToBook, noReference, fieldsIn}
 use Rattle.record.proofs.Kept.{each-kept, field-length}
-use Rattle.save.specs.Entries.{referenceAt, slipNumberAt, nameWidth, goodsFields, keyKept, partiesAgree}
+use Rattle.book.proofs.Fields.{named-fields}
+use Rattle.save.specs.Entries.{referenceAt, slipNumberAt, nameWidth, lineFields, goodsFields, fieldsKept, partiesAgree}
 use Rattle.restored.proofs.Cuts.{part-past}
 
 -- a test that holds at each byte of a list holds at each byte of some of its fields
@@ -97,12 +98,12 @@ module _ (a b c d : List ℕ) (sa : length a ≡ 10) (sb : length b ≡ 2) (sc :
       let v : slice 0 12 (c ++ (d ++ (a ++ (b ++ ys)))) ≡ c ++ d = party c d _ sc sd in
       rw (p, q, u, v, same-refl (a ++ b)) (same-refl (c ++ d))
 
-  -- where both keep their rules, and so do the three fields behind them, a line's key does, and a slip's key
+  -- where both keep their rules, and so do the three fields behind them, a line's key and article do, and a slip's key
   module _ (ka : padded Account 1 10 a ≡ true) (kb : among b (texts Party) ≡ true) (kc : padded Account 1 10 c ≡ true) (kd : among d (texts Party) ≡ true) where
     line-fields : (r x q : List ℕ) → length r ≡ 10 → length x ≡ 13 → length q ≡ 2
         → named Any r ≡ true → article q x ≡ true → among q (texts Numbering) ≡ true
-        → Unbroken (goodsFields (keyFields Goods)) (a ++ (b ++ (c ++ (d ++ (r ++ (x ++ (q ++ [])))))))
-    unfolding goodsFields keyFields layout keeps
+        → Unbroken (goodsFields lineFields) (a ++ (b ++ (c ++ (d ++ (r ++ (x ++ (q ++ [])))))))
+    unfolding goodsFields keyFields articleFields layout keeps
     line-fields r x q sr sx sq kr kx kq =
         let e : take 2 (q ++ []) ≡ q = take-at q [] 2 sq in
         field-before address a sa ka
@@ -126,11 +127,11 @@ module _ (a b c d : List ℕ) (sa : length a ≡ 10) (sb : length b ≡ 2) (sc :
         (field-before slipNumber r sr kr
         (field-before (digits 4) x sx kx (no-fields [])))))))
 
--- a key of allowed bytes with its fields kept, and what must be named named
-key-kept : (fields : List ℕ) (at : ℕ) (key name : List ℕ) → all (belongs Allowed) key ≡ true → Unbroken (goodsFields fields) key
-    → slice at (at + nameWidth) key ≡ name → allOf Blank name ≡ false → keyKept fields at key ≡ true
-unfolding keyKept allOf goodsFields
-key-kept fields at key name e f g h =
+-- fields of allowed bytes that are kept, with what must be named named
+fields-kept : (fields : List ℕ) (at : ℕ) (key name : List ℕ) → all (belongs Allowed) key ≡ true → Unbroken (goodsFields fields) key
+    → slice at (at + nameWidth) key ≡ name → allOf Blank name ≡ false → fieldsKept fields at key ≡ true
+unfolding fieldsKept allOf goodsFields
+fields-kept fields at key name e f g h =
     let n : firstBroken (goodsFields fields) key ≡ length fields = f .all-kept ∙ length-map fields (λ i. getD (layout Goods) i noField) in
     rw (e, eq-eqb (firstBroken (goodsFields fields) key) (length fields) n, g, h)
 
@@ -149,17 +150,17 @@ module _ (k : Kind) (s : List ℕ) (n : ℕ) (f : Fitting k s n) where
   unfolding fieldBytes
   fit-rule i = each-kept (layout k) s i (f .kept)
 
--- an order's line key
+-- an order's line key and article
 module _ (s : List ℕ) (n : ℕ) (f : Fitting Order s n) where
   -- the article number keeps its rule
   order-article : article (fieldBytes Order 8 s) (fieldBytes Order 7 s) ≡ true
   unfolding keeps layout startOf total fieldBytes
   order-article = fit-rule Order s n f 7
 
-  -- the key keeps the rules
-  pub order-key-kept : noReference Order s ≡ false → keyKept (keyFields Goods) referenceAt (lineKey Order s) ≡ true
-  unfolding lineKey keyFields joined layout keeps noReference
-  order-key-kept e =
+  -- they keep the rules
+  pub order-named-kept : noReference Order s ≡ false → fieldsKept lineFields referenceAt (lineKey Order s ++ articleIn Order s) ≡ true
+  unfolding keyFields articleFields joined layout keeps noReference
+  order-named-kept e =
       let at : ℕ → List ℕ = λ i. fieldBytes Order i s in
       let size = fit-size Order s n f in
       let kept = fit-rule Order s n f in
@@ -170,13 +171,14 @@ module _ (s : List ℕ) (n : ℕ) (f : Fitting Order s n) where
       let s6 = size 6 (lit< tt) in
       let fields = line-fields (at 1) (at 2) (at 3) (at 4) s1 s2 s3 s4 (kept 1) (kept 2) (kept 3) (kept 4)
       (at 6) (at 7) (at 8) s6 (size 7 (lit< tt)) (size 8 (lit< tt)) (any-named Unbarred (at 6) (kept 6)) order-article (kept 8) in
-      key-kept (keyFields Goods) referenceAt (lineKey Order s) (at 6) (all-fields (belongs Allowed) Order (keyFields Order) s (fit-allowed Order s n f)) fields
-      (fifth (at 1) (at 2) (at 3) (at 4) s1 s2 s3 s4 (at 6) (at 7 ++ (at 8 ++ [])) s6) e
+      rw (named-fields Order s)
+      (fields-kept lineFields referenceAt (joined (fieldsIn Order (keyFields Order ++ articleFields Order) s)) (at 6) (all-fields (belongs Allowed) Order (keyFields Order ++ articleFields Order) s (fit-allowed Order s n f)) fields
+      (fifth (at 1) (at 2) (at 3) (at 4) s1 s2 s3 s4 (at 6) (at 7 ++ (at 8 ++ [])) s6) e)
 
 -- a delivery's slip key, and its parties
 module _ (s : List ℕ) (n : ℕ) (f : Fitting Goods s n) where
   -- the key keeps the rules
-  pub slip-key-kept : nothingToBook Goods s ≡ false → keyKept slipFields slipNumberAt (slipKey s) ≡ true
+  pub slip-key-kept : nothingToBook Goods s ≡ false → fieldsKept slipFields slipNumberAt (slipKey s) ≡ true
   unfolding slipKey joined layout keeps nothingToBook
   slip-key-kept e =
       let at : ℕ → List ℕ = λ i. fieldBytes Goods i s in
@@ -190,7 +192,7 @@ module _ (s : List ℕ) (n : ℕ) (f : Fitting Goods s n) where
       let s6 = size 6 (lit< tt) in
       let fields = slip-fields (at 1) (at 2) (at 3) (at 4) s1 s2 s3 s4 (kept 1) (kept 2) (kept 3) (kept 4)
       (at 5) (at 6) (at 7) s5 s6 (size 7 (lit< tt)) (kept 5) (kept 6) (kept 7) in
-      key-kept slipFields slipNumberAt (slipKey s) (at 6) (all-fields (belongs Allowed) Goods slipFields s (fit-allowed Goods s n f)) fields
+      fields-kept slipFields slipNumberAt (slipKey s) (at 6) (all-fields (belongs Allowed) Goods slipFields s (fit-allowed Goods s n f)) fields
       (sixth (at 1) (at 2) (at 3) (at 4) s1 s2 s3 s4 (at 5) (at 6) (at 7 ++ []) s5 s6) e
 
   -- its school and supplier are its line's
@@ -200,4 +202,4 @@ module _ (s : List ℕ) (n : ℕ) (f : Fitting Goods s n) where
       let at : ℕ → List ℕ = λ i. fieldBytes Goods i s in
       let size = fit-size Goods s n f in
       parties (at 1) (at 2) (at 3) (at 4) (size 1 (lit< tt)) (size 2 (lit< tt)) (size 3 (lit< tt)) (size 4 (lit< tt))
-      (at 5 ++ (at 6 ++ (at 7 ++ []))) (at 8 ++ (at 9 ++ (at 10 ++ [])))
+      (at 5 ++ (at 6 ++ (at 7 ++ []))) (at 8 ++ [])

@@ -11,14 +11,14 @@ use Rattle.cells.specs.Bytes.{within, same}
 use Rattle.cells.specs.Little.{leAt}
 use Rattle.cells.proofs.Bools.{and-left}
 use Rattle.record.specs.declared.layout.Kind.the-variants.{Goods}
-use Rattle.entry.specs.Stored.{keyWidth, markAt, slipKeyWidth, mostCopies, keyAt, slipKeyAt}
+use Rattle.entry.specs.Stored.{keyWidth, orderedAt, markAt, slipKeyWidth, mostCopies, keyAt, slipKeyAt}
 use Rattle.book.specs.Lent.{Lent, usedLines, usedSlips}
-use Rattle.book.specs.Booking.{keyFields}
 use Rattle.cells.proofs.Searches.{all-at}
-use Rattle.save.specs.Entries.{referenceAt, keyKept, lineKept, lineIndex, isFirst}
+use Rattle.entry.proofs.Kept.{namedAt}
+use Rattle.save.specs.Entries.{referenceAt, lineFields, fieldsKept, lineKept, lineIndex, isFirst}
 use Rattle.save.specs.Saved.{lineBodyAt, slipBodyAt}
 use Rattle.restored.specs.Restored.{Orderly}
-use Rattle.restored.proofs.Bodies.{line-key, slip-key, slip-line, slip-copies, parties-keys}
+use Rattle.restored.proofs.Bodies.{line-key, line-named, slip-key, slip-line, slip-copies, parties-keys}
 use Rattle.restored.proofs.Kept.{SlipKept, line-kept, line-first, slip-kept, slip-first}
 use Rattle.restored.proofs.Ordered.{Ordered, arrived-on}
 
@@ -30,11 +30,11 @@ first-so width body key own e i h f =
     rw (← own e, ← own i) (not-true _ (all-at (λ e. not (same (take width (body e)) (take width (body i)))) i 0 e f (omega arith) (omega arith)))
 
 -- a line that keeps the rules has a key that does
-line-rule : (ls : List ℕ) (i : ℕ) → lineKept (lineBodyAt ls i) ≡ true → keyKept (keyFields Goods) referenceAt (keyAt ls i) ≡ true
+line-rule : (ls : List ℕ) (i : ℕ) → lineKept (lineBodyAt ls i) ≡ true → fieldsKept lineFields referenceAt (namedAt ls i) ≡ true
 unfolding lineKept
 line-rule ls i h =
     let body : List ℕ = lineBodyAt ls i in
-    rw (← line-key ls i) (and-left (keyKept (keyFields Goods) referenceAt (take keyWidth body)) (within 1 mostCopies (leAt body keyWidth 2) && leb (getD body markAt 0) 2) h)
+    rw (← line-named ls i) (and-left (fieldsKept lineFields referenceAt (take orderedAt body)) (within 1 mostCopies (leAt body orderedAt 2) && leb (getD body markAt 0) 2) h)
 
 -- an orderly book with two counts
 pub ordered : (b : Lent) → Orderly b → length (b .used) ≡ 2 → Ordered b

@@ -12,43 +12,43 @@ use Rattle.cells.specs.Little.{leAt}
 use Rattle.cells.specs.Search.{sumFrom}
 use Rattle.cells.proofs.Bools.{and-left, and-right}
 use Rattle.cells.proofs.Searches.{each-place, sum-same}
-use Rattle.record.specs.declared.layout.Kind.the-variants.{Goods}
-use Rattle.entry.specs.Stored.{lineWidth, keyWidth, markAt, arrivedAt, slipKeyWidth, mostCopies, mostArrived, lineAt, keyAt, lineSound, slipKeyAt, slipLineAt, slipCopiesAt}
+use Rattle.entry.specs.Stored.{lineWidth, keyWidth, orderedAt, markAt, arrivedAt, slipKeyWidth, mostCopies, mostArrived, lineAt, keyAt, lineSound, slipKeyAt, slipLineAt, slipCopiesAt}
+use Rattle.entry.proofs.Kept.{namedAt}
 use Rattle.entry.proofs.Sound.{sound-bounded}
 use Rattle.book.specs.Lent.{Lent, usedLines, usedSlips}
-use Rattle.book.specs.Booking.{keyFields, slipFields}
+use Rattle.book.specs.Booking.{slipFields}
 use Rattle.book.proofs.Sounds.{sound-so}
 use Rattle.balance.proofs.Soundness.{Kept}
-use Rattle.save.specs.Entries.{referenceAt, slipNumberAt, keyKept, lineKept, partiesAgree, slipKept, isFirst, copiesOn, arrivedOn, linesKept, slipsKept, sumsKept, entriesKept}
+use Rattle.save.specs.Entries.{referenceAt, slipNumberAt, lineFields, fieldsKept, lineKept, partiesAgree, slipKept, isFirst, copiesOn, arrivedOn, linesKept, slipsKept, sumsKept, entriesKept}
 use Rattle.save.specs.Saved.{lineBodyAt, slipBodyAt}
 use Rattle.restored.specs.Restored.{Orderly}
-use Rattle.restored.proofs.Bodies.{line-key, line-copies, line-mark, slip-key, slip-line, slip-copies, parties-keys}
+use Rattle.restored.proofs.Bodies.{line-key, line-named, line-copies, line-mark, slip-key, slip-line, slip-copies, parties-keys}
 
 -- the copies of the slip at j where it names the line at i, else none
 unfoldable pub bookedOn : List ℕ → ℕ → ℕ → ℕ
 bookedOn slips i j = pick (eqb (slipLineAt slips j) i) (slipCopiesAt slips j .0) 0
 
--- a sound book: each key keeps the rules and is no earlier one's, each slip has copies and its line's school and supplier, each A is its slips' sum
+-- a sound book: each key and article keeps the rules, each key is no earlier one's, each slip has copies and its line's school and supplier, each A is its slips' sum
 pub record Ordered (b : Lent) : Type 0 where
   pub kept : Kept b
-  pub line-rules : (i : ℕ) → i < usedLines b → keyKept (keyFields Goods) referenceAt (keyAt (b .lines) i) ≡ true
+  pub line-rules : (i : ℕ) → i < usedLines b → fieldsKept lineFields referenceAt (namedAt (b .lines) i) ≡ true
   pub line-new : (e i : ℕ) → e < i → i < usedLines b → same (keyAt (b .lines) e) (keyAt (b .lines) i) ≡ false
-  pub slip-rules : (j : ℕ) → j < usedSlips b → keyKept slipFields slipNumberAt (slipKeyAt (b .slips) j) ≡ true
+  pub slip-rules : (j : ℕ) → j < usedSlips b → fieldsKept slipFields slipNumberAt (slipKeyAt (b .slips) j) ≡ true
   pub slip-copies : (j : ℕ) → j < usedSlips b → within 1 mostCopies (slipCopiesAt (b .slips) j .0) ≡ true
   pub slip-parties : (j : ℕ) → j < usedSlips b → partiesAgree (slipKeyAt (b .slips) j) (keyAt (b .lines) (slipLineAt (b .slips) j)) ≡ true
   pub slip-new : (e j : ℕ) → e < j → j < usedSlips b → same (slipKeyAt (b .slips) e) (slipKeyAt (b .slips) j) ≡ false
   pub sums : (i : ℕ) → i < usedLines b → lineAt (b .lines) i .arrived .0 ≡ sumFrom (bookedOn (b .slips) i) (usedSlips b) 0
 
--- a line that is sound, with a key that keeps the rules, keeps the rules
-line-kept : (ls : List ℕ) (i : ℕ) → lineSound ls i ≡ true → keyKept (keyFields Goods) referenceAt (keyAt ls i) ≡ true → lineKept (lineBodyAt ls i) ≡ true
+-- a line that is sound, with a key and article that keep the rules, keeps the rules
+line-kept : (ls : List ℕ) (i : ℕ) → lineSound ls i ≡ true → fieldsKept lineFields referenceAt (namedAt ls i) ≡ true → lineKept (lineBodyAt ls i) ≡ true
 unfolding lineKept lineSound
 line-kept ls i h e =
-    let q : ℕ = leAt ls (lineWidth * i + keyWidth) 2 in
+    let q : ℕ = leAt ls (lineWidth * i + orderedAt) 2 in
     let m : Bool = leb (getD ls (lineWidth * i + markAt) 0) 2 in
     let a : Bool = leb (leAt ls (lineWidth * i + arrivedAt) 4) mostArrived in
     let copies : within 1 mostCopies q ≡ true = and-left (within 1 mostCopies q) (m && a) h in
     let mark : m ≡ true = and-left m a (and-right (within 1 mostCopies q) (m && a) h) in
-    rw (line-key ls i, line-copies ls i, line-mark ls i, e, and-left (leb 1 q) (leb q mostCopies) copies, and-right (leb 1 q) (leb q mostCopies) copies, mark)
+    rw (line-named ls i, line-copies ls i, line-mark ls i, e, and-left (leb 1 q) (leb q mostCopies) copies, and-right (leb 1 q) (leb q mostCopies) copies, mark)
 
 -- where no earlier key is the same, an entry is the first with its key
 is-first : (width : ℕ) (body : ℕ → List ℕ) (key : ℕ → List ℕ) → ((x : ℕ) → take width (body x) ≡ key x)

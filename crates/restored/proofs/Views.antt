@@ -11,7 +11,7 @@ use Rattle.cells.specs.Bytes.{same, within}
 use Rattle.cells.proofs.Searches.{all-same, sum-same}
 use Rattle.entry.specs.Stored.{keyWidth, slipKeyWidth, mostArrived, mostCopies}
 use Rattle.book.specs.Booking.{slipFields}
-use Rattle.save.specs.Entries.{lineKept, slipKept, keyKept, slipNumberAt, slipCopies, partiesAgree, lineIndex, isFirst, copiesOn, arrivedOn, linesKept, slipsKept, sumsKept, entriesKept}
+use Rattle.save.specs.Entries.{lineKept, slipKept, fieldsKept, slipNumberAt, slipCopies, partiesAgree, lineIndex, isFirst, copiesOn, arrivedOn, linesKept, slipsKept, sumsKept, entriesKept}
 
 -- a test that counts only where another holds
 and-same : (t p q : Bool) → (t ≡ true → p ≡ q) → t && p ≡ t && q
@@ -47,7 +47,7 @@ module _ (n : ℕ) (f g : ℕ → List ℕ) (h : (x : ℕ) → x < n → f x ≡
       let e : t && partiesAgree body (f (lineIndex body)) ≡ t && partiesAgree body (g (lineIndex body)) =
       and-same t (partiesAgree body (f (lineIndex body))) (partiesAgree body (g (lineIndex body)))
       (λ d. ap (partiesAgree body) (h (lineIndex body) (ltb-true (lineIndex body) n d))) in
-      ap (λ (x : Bool). keyKept slipFields slipNumberAt (take slipKeyWidth body) && (within 1 mostCopies (slipCopies body) && x)) e
+      ap (λ (x : Bool). fieldsKept slipFields slipNumberAt (take slipKeyWidth body) && (within 1 mostCopies (slipCopies body) && x)) e
 
 -- n lines and m slips
 module _ (n m : ℕ) (line line′ slip slip′ : ℕ → List ℕ) (h : (x : ℕ) → x < n → line x ≡ line′ x) (k : (x : ℕ) → x < m → slip x ≡ slip′ x) where
