@@ -1,4 +1,2 @@
-pub mod Booked
-pub mod Loaded
 pub mod Sampled
 pub mod Written

@@ -1,0 +1,1 @@
+// The cases of booking, of the call by key, and of saving and loading, computed of the definitions. No code.
