@@ -103,3 +103,11 @@ refused-or-accepted s b =
     at-reading : rosterSound (s .roster) ≡ true → sound b ≡ true → (v : Reading) → judged (s .given) ≡ v → Refuses (bookCall s b) b ⊎ Accepts s b
     at-reading t h (ReadRefused x) r = inl (rw (t, h, r) (refuses (Unread x) b))
     at-reading t h (ReadFits n) r = at-kind t h n r (kindOf (s .given)) refl
+
+-- a record that answers 0 is accepted
+pub accepted : (s : Met) (b : Lent) → bookCall s b .said .answer ≡ 0 → Accepts s b
+accepted s b e = go (refused-or-accepted s b)
+  where
+    go : Refuses (bookCall s b) b ⊎ Accepts s b → Accepts s b
+    go (inl r) = absurd (r .answer e)
+    go (inr a) = a

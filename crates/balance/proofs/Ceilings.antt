@@ -1,12 +1,10 @@
 -- After an accepted order its school's open copies are at most its ceiling on the roster that the order met.
 use mathlib.Core.Path.{_≡_, _∙_, ap, sym, refl}
 use mathlib.Core.Bool.{true, false, false≢true}
-use mathlib.Core.Logic.{_⊎_, inl, inr}
 use mathlib.Core.List.{List, [], _∷_, _++_}
 use Prim.Native.Nat.{ℕ, _+_, _≤_}
 use lib.ListN.{take}
 use Rattle.cells.specs.Bytes.{joined}
-use Rattle.cells.proofs.Bools.{split}
 use Rattle.roster.specs.Roster.{standing}
 use Rattle.roster.specs.declared.Standing.the-variants.{On}
 use Rattle.record.specs.Layout.{kindOf}
@@ -19,7 +17,7 @@ use Rattle.ledger.specs.Book.{schoolOf as schoolIn, Rooms, stillOpen}
 use Rattle.ledger.specs.Booking.{done, openOf, judge, enter}
 use Rattle.ledger.specs.History.{keyOf as keyIn, linesOf}
 use Rattle.ledger.proofs.Ceilings.{ceiling-kept as kept-on-lists}
-use Rattle.book.specs.Lent.{Lent, sound, openCopies}
+use Rattle.book.specs.Lent.{Lent, sound}
 use Rattle.book.specs.Booking.{keyFields, schoolIn as schoolAt}
 use Rattle.book.specs.Asked.{areWide}
 use Rattle.balance.specs.Met.{Met}
@@ -29,13 +27,13 @@ use Rattle.balance.specs.Accepted.{OnRoster}
 use Rattle.balance.specs.Demand3.{isOrder, keyFieldsIn, Given, fresh, give, giveAll, schoolOf, openFor, CeilingKept}
 use Rattle.balance.specs.Joined.{figuresTold, CeilingHeld}
 use Rattle.balance.proofs.Soundness.{Kept}
-use Rattle.balance.proofs.Accepted.{Refuses, Accepts, refused-or-accepted}
+use Rattle.balance.proofs.Accepted.{Accepts, accepted}
 use Rattle.balance.proofs.Keys.{schoolWidths, school-front}
 use Rattle.balance.proofs.Bookable.{schoolTest, bookable, keyed}
 use Rattle.balance.proofs.Followed.{follows}
 use Rattle.balance.proofs.Opens.{open-told}
 use Rattle.balance.proofs.Exactly.{on-roster-is}
-use Rattle.balance.proofs.Given.{unsound-given}
+use Rattle.balance.proofs.Given.{sound-start, given-more}
 use Rattle.balance.proofs.Stands.{stands}
 use Rattle.balance.proofs.Accounts.{summed}
 
@@ -71,19 +69,10 @@ told-below s b ceiling kept o a r =
 
 -- of any lent book
 pub ceiling-held : CeilingHeld
-ceiling-held s b ceiling two o e r = go (refused-or-accepted s b)
-  where
-    go : Refuses (bookCall s b) b ⊎ Accepts s b → openCopies (bookCall s b .lent) (joined (schoolOf s)) ≤ ceiling
-    go (inl x) = absurd (x .answer e)
-    go (inr a) =
-        rw (open-told (bookCall s b .lent) (joined (schoolOf s)))
-        (told-below s b ceiling (record { is-sound = a .is-sound; counts = two }) o a r)
-
--- one more record given
-given-more : (rs : List Met) (s : Met) (g : Given) → giveAll g (rs ++ (s ∷ [])) ≡ give (giveAll g rs) s
-unfolding giveAll
-given-more [] s g = refl
-given-more (r ∷ rs) s g = given-more rs s (give g r)
+ceiling-held s b ceiling two o e r =
+    let a = accepted s b e in
+    rw (open-told (bookCall s b .lent) (joined (schoolOf s)))
+    (told-below s b ceiling (record { is-sound = a .is-sound; counts = two }) o a r)
 
 -- the open copies of a school, as the call by key answers for its orders, are those of its lines in the told book
 module _ (lines slips : List ℕ) (records : List Met) (sound-rooms : sound (fresh lines slips .book) ≡ true) where
@@ -101,26 +90,10 @@ module _ (lines slips : List ℕ) (records : List Met) (sound-rooms : sound (fre
 -- and of the books that records make, in the calls' own words
 pub ceiling-kept : CeilingKept
 ceiling-kept lines slips records s ceiling o e r =
-    split (sound (fresh lines slips .book))
-    (λ h. go h (refused-or-accepted s (giveAll (fresh lines slips) records .book)))
-    (λ h. go-unsound h (refused-or-accepted s (giveAll (fresh lines slips) records .book)))
-  where
-    go-unsound : sound (fresh lines slips .book) ≡ false
-        → Refuses (bookCall s (giveAll (fresh lines slips) records .book)) (giveAll (fresh lines slips) records .book) ⊎ Accepts s (giveAll (fresh lines slips) records .book)
-        → openFor (schoolOf s) (give (giveAll (fresh lines slips) records) s) ≤ ceiling
-    go-unsound h (inl x) = absurd (x .answer e)
-    go-unsound h (inr a) =
-        let same-book = unsound-given records (fresh lines slips) h in
-        absurd (false≢true (sym h ∙ (rw same-book at (a .is-sound))))
-
-    go : sound (fresh lines slips .book) ≡ true
-        → Refuses (bookCall s (giveAll (fresh lines slips) records .book)) (giveAll (fresh lines slips) records .book) ⊎ Accepts s (giveAll (fresh lines slips) records .book)
-        → openFor (schoolOf s) (give (giveAll (fresh lines slips) records) s) ≤ ceiling
-    go h (inl x) = absurd (x .answer e)
-    go h (inr a) =
-        let g : Given = giveAll (fresh lines slips) records in
-        let known = stands lines slips records h in
-        let more = given-more records s (fresh lines slips) in
-        let opens : openFor (schoolOf s) (give g s) ≡ openOf (joined (schoolOf s)) (told (give g s .book) .lines) =
-        rw more at (open-for lines slips (records ++ (s ∷ [])) h (schoolOf s) (school-wide s (g .book) a)) in
-        rw opens (unfold give in told-below s (g .book) ceiling (known .kept) o a r)
+    let g : Given = giveAll (fresh lines slips) records in
+    let a = accepted s (g .book) e in
+    let h = sound-start records (fresh lines slips) s a in
+    let more = given-more records s (fresh lines slips) in
+    let opens : openFor (schoolOf s) (give g s) ≡ openOf (joined (schoolOf s)) (told (give g s .book) .lines) =
+    rw more at (open-for lines slips (records ++ (s ∷ [])) h (schoolOf s) (school-wide s (g .book) a)) in
+    rw opens (unfold give in told-below s (g .book) ceiling (stands lines slips records h .kept) o a r)

@@ -11,9 +11,9 @@ use lib.Seq.{getD-set-same, getD-set-other}
 use borrow.Author.Tests.{eqb-true, eqb-false}
 use Rattle.cells.proofs.Bools.{split}
 use Rattle.rules.specs.declared.amount.Copies.{Copies}
-use Rattle.entry.specs.Stored.{lineWidth, keyWidth, orderedAt, slipWidth, slipKeyWidth, putLine, addLine, keyAt, slipLineAt, addSlip}
+use Rattle.entry.specs.Stored.{lineWidth, keyWidth, orderedAt, slipWidth, slipKeyWidth, putLine, addLine, keyAt, articleAt, slipLineAt, addSlip}
 use Rattle.entry.specs.declared.line.Line.{Line as Stored}
-use Rattle.entry.proofs.Kept.{put-length, put-back, put-apart, put-key, add-length, add-back, add-key, add-apart, add-key-apart, slip-length, slip-key, slip-line, slip-copies, slip-key-apart, slip-line-apart, slip-copies-apart}
+use Rattle.entry.proofs.Kept.{put-length, put-back, put-apart, put-key, add-length, add-back, add-key, add-apart, add-key-apart, slip-length, slip-key, slip-line, slip-copies, slip-key-apart, slip-line-apart, slip-copies-apart, put-article, add-article, add-article-apart}
 use Rattle.entry.proofs.Sound.{Bounded, put-sound, put-sound-apart, add-sound, add-sound-apart}
 use Rattle.ledger.specs.Book.{Key, Line, Slip}
 use Rattle.book.specs.Lent.{Lent, usedLines, usedSlips, lineRoom, slipRoom}
@@ -22,9 +22,9 @@ use Rattle.balance.proofs.Listings.{listed-same, listed-more}
 use Rattle.book.proofs.Sounds.{sound-so}
 use Rattle.balance.proofs.Soundness.{still-sound, Kept, line-room, slip-room}
 
--- a line with a key, as the book tells it
-unfoldable pub lineOf : Key → Stored → Line
-lineOf key l = record { key = key; asked = record { copies = l .ordered .0 }; arrived = l .arrived .0; last = reportOf (l .mark) }
+-- a line with a key and an article, as the book tells it
+unfoldable pub lineOf : Key → List ℕ → Stored → Line
+lineOf key article l = record { key = key; asked = record { copies = l .ordered .0; article = article }; arrived = l .arrived .0; last = reportOf (l .mark) }
 
 -- the values of a line written over the line at i
 abbrev pub withLine : Lent → ℕ → Stored → Lent
@@ -36,13 +36,13 @@ module _ (b : Lent) (i : ℕ) (l : Stored) (k : Kept b) (used : i < usedLines b)
       let say = sound-so b (k .is-sound) in
       line-room b say i (omega (arith, say .lines-fit))
 
-  pub put-here : lineTold (putLine (b .lines) i l) i ≡ lineOf (keyAt (b .lines) i) l
+  pub put-here : lineTold (putLine (b .lines) i l) i ≡ lineOf (keyAt (b .lines) i) (articleAt (b .lines) i) l
   unfolding lineTold lineOf
-  put-here = rw (put-key (b .lines) i l i, put-back (b .lines) i l at (omega (arith, bounded .most)) (omega (arith, bounded .sum)))
+  put-here = rw (put-key (b .lines) i l i, put-article (b .lines) i l i, put-back (b .lines) i l at (omega (arith, bounded .most)) (omega (arith, bounded .sum)))
 
   pub put-other : (x : ℕ) → x ≢ i → lineTold (putLine (b .lines) i l) x ≡ lineTold (b .lines) x
   unfolding lineTold
-  put-other x ne = rw (put-key (b .lines) i l x, put-apart (b .lines) i l x ne)
+  put-other x ne = rw (put-key (b .lines) i l x, put-article (b .lines) i l x, put-apart (b .lines) i l x ne)
 
   pub put-slips : told (withLine b i l) .slips ≡ told b .slips
   unfolding told slipTold usedSlips
@@ -89,15 +89,15 @@ module _ (b : Lent) (key article : List ℕ) (l : Stored) (k : Kept b) (room : u
   unfolding lineTold
   add-other x a c =
       let ne : x ≢ usedLines b = λ e. omega arith in
-      rw (add-key-apart (b .lines) (usedLines b) (key ++ article) l whole x ne, add-apart (b .lines) (usedLines b) (key ++ article) l whole x ne)
+      rw (add-key-apart (b .lines) (usedLines b) (key ++ article) l whole x ne, add-article-apart (b .lines) (usedLines b) (key ++ article) l whole x ne, add-apart (b .lines) (usedLines b) (key ++ article) l whole x ne)
 
-  add-here : lineTold (addLine (b .lines) (usedLines b) (key ++ article) l) (usedLines b) ≡ lineOf key l
+  add-here : lineTold (addLine (b .lines) (usedLines b) (key ++ article) l) (usedLines b) ≡ lineOf key article l
   unfolding lineTold lineOf
   add-here =
-      rw (add-key (b .lines) (usedLines b) key article l wide whole next, add-back (b .lines) (usedLines b) (key ++ article) l whole next (omega (arith, bounded .most)) (omega (arith, bounded .sum)))
+      rw (add-key (b .lines) (usedLines b) key article l wide whole next, add-article (b .lines) (usedLines b) key article l wide whole next, add-back (b .lines) (usedLines b) (key ++ article) l whole next (omega (arith, bounded .most)) (omega (arith, bounded .sum)))
 
   -- each line is told as before, and the new one last
-  pub add-lines : told (moreLine b (key ++ article) l) .lines ≡ told b .lines ++ (lineOf key l ∷ [])
+  pub add-lines : told (moreLine b (key ++ article) l) .lines ≡ told b .lines ++ (lineOf key article l ∷ [])
   unfolding told
   add-lines =
       let f = lineTold (addLine (b .lines) (usedLines b) (key ++ article) l) in

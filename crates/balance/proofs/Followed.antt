@@ -16,7 +16,7 @@ use Rattle.record.specs.declared.layout.Kind.{Kind}
 use Rattle.record.specs.declared.layout.Kind.the-variants.{Order, Goods, Closing, Report}
 use Rattle.reader.proofs.Fitting.{Fitting, fitting}
 use Rattle.entry.specs.Line.{withMark, withArrivals}
-use Rattle.entry.specs.Stored.{keyWidth, orderedAt, slipKeyWidth, mostCopies, mostArrived, lineAt, putLine, keyAt, keyIs, slipLineAt, slipCopiesAt}
+use Rattle.entry.specs.Stored.{keyWidth, orderedAt, slipKeyWidth, mostCopies, mostArrived, lineAt, putLine, keyAt, articleAt, keyIs, slipLineAt, slipCopiesAt}
 use Rattle.entry.specs.declared.line.Mark.{Mark}
 use Rattle.entry.specs.declared.line.Line.{Line as Stored}
 use Rattle.entry.proofs.Sound.{Bounded, sound-bounded}
@@ -137,7 +137,7 @@ pub record Follows (b : Lent) (r : Fit) (c : Lent) : Type 0 where
 
 -- the line with a key changed in the bytes is the first with this key changed in the told book
 module _ (b : Lent) (key : Key) (i : ℕ) (l : Stored) (h : Line → Line) (k : Kept b) (f : findLine b key ≡ At i) (bounded : Bounded l) where
-  line-changed : lineOf (keyAt (b .lines) i) l ≡ h (lineTold (b .lines) i) → told (withLine b i l) .lines ≡ changeLine key h (told b .lines)
+  line-changed : lineOf (keyAt (b .lines) i) (articleAt (b .lines) i) l ≡ h (lineTold (b .lines) i) → told (withLine b i l) .lines ≡ changeLine key h (told b .lines)
   unfolding told changeLine usedLines findLine
   line-changed e =
       let used = line-used b key i f .0 in
@@ -147,12 +147,12 @@ module _ (b : Lent) (key : Key) (i : ℕ) (l : Stored) (h : Line → Line) (k : 
 -- an order is entered
 module _ (b : Lent) (key article : List ℕ) (copies : Copies) (k : Kept b) (wide : length key ≡ keyWidth) (whole : length (key ++ article) ≡ orderedAt) (least : 1 ≤ copies .0) (most : copies .0 ≤ mostCopies) where
   order-entered : (ceiling : ℕ) → findLine b key ≡ Nothing → openCopies b (schoolOf key) + copies .0 ≤ ceiling → usedLines b < lineRoom b
-      → Follows b (ordering key (record { copies = copies .0 }) ceiling) (moreLine b (key ++ article) (newLine copies))
+      → Follows b (ordering key (record { copies = copies .0; article = article }) ceiling) (moreLine b (key ++ article) (newLine copies))
   unfolding enter newLine lineOf reportOf
   order-entered ceiling e below room =
       let bounded : Bounded (newLine copies) = record { least = least; most = most; sum = omega arith } in
       record {
-        allowed = order-passes b key (record { copies = copies .0 }) ceiling e below room;
+        allowed = order-passes b key (record { copies = copies .0; article = article }) ceiling e below room;
         tells = λ x. record {
           lines = add-lines b key article (newLine copies) k room wide whole bounded x;
           slips = add-slips b key article (newLine copies) k room wide whole bounded x;
@@ -176,12 +176,12 @@ module _ (b : Lent) (k : Kept b) (i : ℕ) (used : i < usedLines b) where
 
 -- the changed line is told as the told line changed
 module _ (lines : List ℕ) (i : ℕ) where
-  pub line-arrives : (copies : Copies) → lineOf (keyAt lines i) (withArrivals copies (lineAt lines i)) ≡ arrive (copies .0) (lineTold lines i)
+  pub line-arrives : (copies : Copies) → lineOf (keyAt lines i) (articleAt lines i) (withArrivals copies (lineAt lines i)) ≡ arrive (copies .0) (lineTold lines i)
   unfolding lineOf withArrivals arrive lineTold
   line-arrives copies = refl
 
   pub line-reported : (m : Mark) (h : Hold) → reportOf m ≡ some (record { hold = h })
-      → lineOf (keyAt lines i) (withMark m (lineAt lines i)) ≡ tell (record { hold = h }) (lineTold lines i)
+      → lineOf (keyAt lines i) (articleAt lines i) (withMark m (lineAt lines i)) ≡ tell (record { hold = h }) (lineTold lines i)
   unfolding lineOf withMark tell lineTold
   line-reported m h e = rw e
 

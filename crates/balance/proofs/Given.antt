@@ -1,6 +1,6 @@
 -- Records given one after the other to the booking call: the told book is what the accepted ones give, and keeps demand 3 on lists.
 use mathlib.Core.Path.{_≡_, _∙_, ap, subst, sym, refl}
-use mathlib.Core.Bool.{false, false≢true}
+use mathlib.Core.Bool.{true, false, false≢true}
 use mathlib.Core.Logic.{_⊎_, inl, inr}
 use mathlib.Core.List.{List, [], _∷_, _++_, map, map-append, append-assoc}
 use Prim.Native.Nat.{ℕ}
@@ -77,6 +77,17 @@ unsound-given (r ∷ rs) g e = ap (λ (h : Given). giveAll h rs) (go (refused-or
     go : Refuses (bookCall r (g .book)) (g .book) ⊎ Accepts r (g .book) → give g r ≡ g
     go (inl h) = give-refused g r h
     go (inr a) = absurd (false≢true (sym e ∙ a .is-sound))
+
+-- so a record that is accepted came into rooms of right size
+pub sound-start : (rs : List Met) (g : Given) (s : Met) → Accepts s (giveAll g rs .book) → sound (g .book) ≡ true
+sound-start rs g s a =
+    split (sound (g .book)) (λ e. e) (λ e. let same-book = unsound-given rs g e in absurd (false≢true (sym e ∙ (rw same-book at (a .is-sound)))))
+
+-- one more record given
+pub given-more : (rs : List Met) (s : Met) (g : Given) → giveAll g (rs ++ (s ∷ [])) ≡ give (giveAll g rs) s
+unfolding giveAll
+given-more [] s g = refl
+given-more (r ∷ rs) s g = given-more rs s (give g r)
 
 -- a book with no used entries tells what no records come to
 pub fresh-told : (rooms : Rooms) (lines slips : List ℕ) → bookings rooms empty [] ≡ stateTold (fresh lines slips)

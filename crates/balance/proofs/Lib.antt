@@ -1,5 +1,6 @@
 pub mod Accepted
 pub mod Accounts
+pub mod Agreed
 pub mod Bookable
 pub mod Ceilings
 pub mod Computed

@@ -1,6 +1,6 @@
--- What the call by key answers follows from the key's own accepted records.
+-- What the call by key answers, and the article of a line, follow from the key's own accepted records.
 use mathlib.Core.Path.{_≡_, _∙_, ap, sym, refl}
-use mathlib.Core.Bool.{Bool, false}
+use mathlib.Core.Bool.{Bool, true, false}
 use mathlib.Core.Option.{Option, none, some}
 use mathlib.Core.List.{List, [], _∷_, map}
 use Prim.Native.Nat.{ℕ}
@@ -14,7 +14,7 @@ use Rattle.record.specs.declared.layout.Kind.the-variants.{Order, Goods, Closin
 use Rattle.record.specs.declared.layout.Kinded.the-variants.{Known}
 use Rattle.entry.specs.declared.line.Mark.{Mark}
 use Rattle.entry.specs.declared.line.Mark.the-variants.{Unmarked}
-use Rattle.ledger.specs.Lists.{keep, total}
+use Rattle.ledger.specs.Lists.{keep, total, given}
 use Rattle.ledger.specs.Book.{Key, Report as Telling, Line, Rooms}
 use Rattle.ledger.specs.Booking.{Fit, lineAt as lineWith}
 use Rattle.ledger.specs.History.{keyOf as keyIn, linesOf, recordsOf as fitsOf, onSlip, lastReport, lineFrom as lineGiven}
@@ -22,12 +22,13 @@ use Rattle.ledger.proofs.Lists.{Each, total-map}
 use Rattle.ledger.proofs.Members.{total-keep, foremost, first-foremost, each-kept, keep-each, total-each, keep-mapped, keep-nothing}
 use Rattle.ledger.proofs.Gives.{Gives}
 use Rattle.ledger.proofs.Lines.{every-line}
-use Rattle.book.specs.Booking.{copiesIn, markIn, nothingToBook}
+use Rattle.book.specs.Booking.{articleIn, copiesIn, markIn, nothingToBook}
 use Rattle.book.specs.Asked.{keyWidths, areWide, lineAsked}
 use Rattle.balance.specs.Met.{Met}
 use Rattle.balance.specs.Told.{reportOf, told, fitAs, fitKind, fitOf}
 use Rattle.balance.specs.Demand3.{isOrder, isDelivery, isReport, copiesOn, keyFieldsIn, sameFields, recordsWith, lastMark, lineFrom, Given}
 use Rattle.balance.specs.Joined.{saysOf}
+use Rattle.balance.specs.Agreed.{articleOn, articleFrom}
 use Rattle.balance.proofs.Soundness.{Kept}
 use Rattle.balance.proofs.Entered.{lineOf}
 use Rattle.balance.proofs.Followed.{report-mark}
@@ -58,30 +59,47 @@ last-report (s ∷ ss) h m = go (h .0 .kind) (h .0 .known) (h .0 .something) (λ
 -- the line that an order begins, with the records after it
 abbrev begun : Key → Met → List Met → Line
 begun key s ss =
-    lineOf key (record { ordered = copies (copiesOn s); arrived = copies (total copiesOn (keep isDelivery ss)); mark = lastMark Unmarked (keep isReport ss) })
+    lineOf key (articleOn s) (record { ordered = copies (copiesOn s); arrived = copies (total copiesOn (keep isDelivery ss)); mark = lastMark Unmarked (keep isReport ss) })
 
 -- it is the line that the order begins on lists
 order-begins : (key : Key) (s : Met) (ss : List Met) → Each Bookable ss
-    → record { key = key; asked = record { copies = copiesOn s }; arrived = total onSlip (map fitOf ss); last = lastReport none (map fitOf ss) } ≡ begun key s ss
+    → record { key = key; asked = record { copies = copiesOn s; article = articleOn s }; arrived = total onSlip (map fitOf ss); last = lastReport none (map fitOf ss) } ≡ begun key s ss
 unfolding lineOf
 order-begins key s ss h =
     let last : lastReport none (map fitOf ss) ≡ reportOf (lastMark Unmarked (keep isReport ss)) = unfold reportOf in last-report ss h Unmarked in
     rw (slips-total ss h, last) refl
 
--- a key's own records make the line that the call by key tells
-own-line : (key : Key) (ss : List Met) → Each Bookable ss → saysOf (foremost (lineGiven key (map fitOf ss))) ≡ lineFrom ss
-unfolding lineGiven lineFrom fitOf fitKind fitAs isOrder nothingToBook
-own-line key [] h = unfold saysOf in refl
-own-line key (s ∷ ss) h = go (h .0 .kind) (h .0 .known) (h .0 .something) (own-line key ss (h .1))
+-- the line that the first order among some records begins
+unfoldable pub firstBegun : Key → List Met → Option Line
+firstBegun key [] = none
+firstBegun key (s ∷ ss) = pick (isOrder s) (some (begun key s ss)) (firstBegun key ss)
+
+-- a key's own records make this line
+own-begun : (key : Key) (ss : List Met) → Each Bookable ss → foremost (lineGiven key (map fitOf ss)) ≡ firstBegun key ss
+unfolding lineGiven firstBegun fitOf fitKind fitAs isOrder nothingToBook
+own-begun key [] h = refl
+own-begun key (s ∷ ss) h = go (h .0 .kind) (h .0 .known) (h .0 .something) (own-begun key ss (h .1))
   where
-    go : (k : Kind) → kindOf (s .given) ≡ Known k → nothingToBook k (s .given) ≡ false → saysOf (foremost (lineGiven key (map fitOf ss))) ≡ lineFrom ss
-        → saysOf (foremost (lineGiven key (fitOf s ∷ map fitOf ss))) ≡ lineFrom (s ∷ ss)
+    go : (k : Kind) → kindOf (s .given) ≡ Known k → nothingToBook k (s .given) ≡ false → foremost (lineGiven key (map fitOf ss)) ≡ firstBegun key ss
+        → foremost (lineGiven key (fitOf s ∷ map fitOf ss)) ≡ firstBegun key (s ∷ ss)
     go Order e n rest =
         let c : copiesOn s ≡ copiesIn Order (s .given) .0 = unfold copiesOn in rw e refl in
-        rw (e, ← c) (ap (λ (l : Line). saysOf (some l)) (order-begins key s ss (h .1)) ∙ sym (done-told key _))
+        let a : articleOn s ≡ articleIn Order (s .given) = unfold articleOn in rw e refl in
+        rw (e, ← c, ← a) (ap (λ (l : Line). some l) (order-begins key s ss (h .1)))
     go Goods e n rest = rw e rest
     go Closing e n rest = absurd (let z : _≡_ {A = ℕ} 0 1 = cc in omega arith)
     go Report e n rest = rw e rest
+
+-- what the call by key says of it, and its article
+begun-says : (key : Key) (ss : List Met) → saysOf (firstBegun key ss) ≡ lineFrom ss
+unfolding firstBegun lineFrom
+begun-says key [] = unfold saysOf in refl
+begun-says key (s ∷ ss) = let rest = begun-says key ss in split (isOrder s) (λ e. rw e (sym (done-told key (articleOn s) _))) (λ e. rw e rest)
+
+begun-article : (key : Key) (ss : List Met) → given [] (λ (l : Line). l .asked .article) (firstBegun key ss) ≡ articleFrom ss
+unfolding firstBegun articleFrom given lineOf
+begun-article key [] = refl
+begun-article key (s ∷ ss) = let rest = begun-article key ss in split (isOrder s) (λ e. rw e refl) (λ e. rw e rest)
 
 -- of a sound lent book whose told book these accepted records give
 module _ (rooms : Rooms) (g : Given) (kept : Kept (g .book)) (gives : Gives rooms (map fitOf (g .accepted)) (told (g .book))) (all : Each Bookable (g .accepted)) where
@@ -95,18 +113,29 @@ module _ (rooms : Rooms) (g : Given) (kept : Kept (g .book)) (gives : Gives room
       first-foremost (λ (l : Line). same key (l .key)) (told (g .book) .lines)
       ∙ ap (foremost {A = Line}) (rw gives at (every-line rooms fits key))
 
+  -- so of the records that have the fields of a key
+  begun-with : (fields : List (List ℕ)) → areWide keyWidths fields ≡ true
+      → lineWith (joined fields) (told (g .book) .lines) ≡ firstBegun (joined fields) (recordsWith fields (g .accepted))
+  unfolding recordsWith fitsOf
+  begun-with fields w =
+      let with : Met → Bool = λ s. sameFields fields (keyFieldsIn s) in
+      let mine = keep-mapped Bookable fitOf (λ (r : Fit). same (joined fields) (keyIn r)) with (λ s b. sym (rw w at (key-in s b fields))) (g .accepted) all in
+      line-given (joined fields) ∙ ap (λ (rs : List Fit). foremost (lineGiven (joined fields) rs)) mine ∙ own-begun (joined fields) (keep with (g .accepted)) (each-kept Bookable with (g .accepted) all)
+
   -- each key's answer follows from its own accepted records
   pub answers : (fields : List (List ℕ)) → lineAsked fields (g .book) ≡ lineFrom (recordsWith fields (g .accepted))
-  unfolding recordsWith fitsOf
+  unfolding recordsWith
   answers fields =
       let with : Met → Bool = λ s. sameFields fields (keyFieldsIn s) in
       asked-tells fields (g .book)
       ∙ rw (kept .is-sound)
       (split (areWide keyWidths fields)
-      (λ w.
-      let mine = keep-mapped Bookable fitOf (λ (r : Fit). same (joined fields) (keyIn r)) with (λ s b. sym (rw w at (key-in s b fields))) (g .accepted) all in
-      rw w (ap saysOf (line-given (joined fields) ∙ ap (λ (rs : List Fit). foremost (lineGiven (joined fields) rs)) mine)
-      ∙ own-line (joined fields) (keep with (g .accepted)) (each-kept Bookable with (g .accepted) all)))
+      (λ w. rw w (ap saysOf (begun-with fields w) ∙ begun-says (joined fields) (recordsWith fields (g .accepted))))
       (λ w.
       let none-mine = keep-each Bookable with (λ s. false) (λ s b. rw w at (key-in s b fields)) (g .accepted) all ∙ keep-nothing (g .accepted) in
       rw (w, none-mine) (unfold lineFrom in refl)))
+
+  -- and so does the article of its line
+  pub articles : (fields : List (List ℕ)) → areWide keyWidths fields ≡ true
+      → given [] (λ (l : Line). l .asked .article) (lineWith (joined fields) (told (g .book) .lines)) ≡ articleFrom (recordsWith fields (g .accepted))
+  articles fields w = ap (given [] (λ (l : Line). l .asked .article)) (begun-with fields w) ∙ begun-article (joined fields) (recordsWith fields (g .accepted))

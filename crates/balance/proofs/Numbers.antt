@@ -24,7 +24,7 @@ use Rattle.ledger.specs.Lists.{given, found}
 use Rattle.ledger.specs.Book.{Key, schoolOf, Order as Ordering, Goods as Arrival, Report as Telling}
 use Rattle.ledger.specs.Booking.{order, goods, report, isSame, firstOf, tests, judge, mostArrived as limit, numberOf}
 use Rattle.book.specs.Lent.{Lent, usedLines, usedSlips, lineRoom, slipRoom, sound, findLine, findSlip, openCopies}
-use Rattle.book.specs.Booking.{refusedNumber, lineKey, slipKey, schoolIn, copiesIn, markIn, nothingToBook, noCopies, noReference, newLineJudged, orderJudged, slipJudged, arrivalJudged, goodsJudged, deliveryJudged, reportJudged, bookJudged, onRoster, fitJudged, refusedAs, doneAs, enteredAs, settled, bookAs, bookKind, bookRead, book}
+use Rattle.book.specs.Booking.{refusedNumber, lineKey, articleIn, slipKey, schoolIn, copiesIn, markIn, nothingToBook, noCopies, noReference, newLineJudged, orderJudged, slipJudged, arrivalJudged, goodsJudged, deliveryJudged, reportJudged, bookJudged, onRoster, fitJudged, refusedAs, doneAs, enteredAs, settled, bookAs, bookKind, bookRead, book}
 use Rattle.cells.specs.declared.search.Found.{Found}
 use Rattle.cells.specs.declared.search.Found.the-variants.{At, Nothing}
 use Rattle.book.specs.declared.answer.Verdict.{Verdict}
@@ -116,7 +116,7 @@ kind-number : (s roster : List ℕ) (b : Lent) (k : Kind) (ceiling : ℕ) → fi
     → verdictNumber (bookJudged k s ceiling b) ≡ numberOf (judge (roomsOf b) (told b) (fitAs k s roster))
 unfolding bookJudged fitAs ceilingIn nothingToBook
 kind-number s roster b Order ceiling w h t =
-    rw (t, school-heads s w) (order-number b (lineKey Order s) (record { copies = copiesIn Order s .0 }) ceiling (findLine b (lineKey Order s)) refl)
+    rw (t, school-heads s w) (order-number b (lineKey Order s) (record { copies = copiesIn Order s .0; article = articleIn Order s }) ceiling (findLine b (lineKey Order s)) refl)
 kind-number s roster b Goods ceiling w h t =
     delivery-number b (lineKey Goods s) (record { slip = slipKey s; copies = copiesIn Goods s .0 }) (findSlip b (slipKey s)) refl
 kind-number s roster b Closing ceiling w h t = absurd (let z : _≡_ {A = ℕ} 0 1 = cc in omega arith)

@@ -4,3 +4,4 @@ pub mod Calls
 pub mod Accepted
 pub mod Demand3
 pub mod Joined
+pub mod Agreed

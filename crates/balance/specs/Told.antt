@@ -7,7 +7,7 @@ use Rattle.record.specs.declared.layout.Kind.{Kind}
 use Rattle.record.specs.declared.layout.Kind.the-variants.{Order as order, Goods as goods, Closing as closing, Report as report}
 use Rattle.record.specs.declared.layout.Kinded.{Kinded}
 use Rattle.record.specs.declared.layout.Kinded.the-variants.{Known, Unknown}
-use Rattle.entry.specs.Stored.{lineAt, keyAt, slipKeyAt, slipLineAt, slipCopiesAt}
+use Rattle.entry.specs.Stored.{lineAt, keyAt, articleAt, slipKeyAt, slipLineAt, slipCopiesAt}
 use Rattle.entry.specs.declared.line.Mark.{Mark}
 use Rattle.entry.specs.declared.line.Mark.the-variants.{Unmarked, Held, Dropped}
 use Rattle.ledger.specs.Book.{Hold, J, N, Report, Line, Slip, Book, Rooms}
@@ -16,7 +16,7 @@ use Rattle.book.specs.Lent.{Lent, usedLines, usedSlips, lineRoom, slipRoom}
 use Rattle.roster.specs.Roster.{standing}
 use Rattle.roster.specs.declared.Standing.{Standing}
 use Rattle.roster.specs.declared.Standing.the-variants.{On, Off}
-use Rattle.book.specs.Booking.{lineKey, slipKey, schoolIn, copiesIn, markIn}
+use Rattle.book.specs.Booking.{lineKey, articleIn, slipKey, schoolIn, copiesIn, markIn}
 use Rattle.balance.specs.Met.{Met}
 
 -- what stands at the n places from i on
@@ -32,7 +32,7 @@ reportOf Dropped = some (record { hold = N })
 
 unfoldable pub lineTold : List ℕ → ℕ → Line
 lineTold lines i =
-    record { key = keyAt lines i; asked = record { copies = lineAt lines i .ordered .0 }; arrived = lineAt lines i .arrived .0; last = reportOf (lineAt lines i .mark) }
+    record { key = keyAt lines i; asked = record { copies = lineAt lines i .ordered .0; article = articleAt lines i }; arrived = lineAt lines i .arrived .0; last = reportOf (lineAt lines i .mark) }
 
 -- a stored slip has its line's index; here it names its line by key
 unfoldable pub slipTold : List ℕ → List ℕ → ℕ → Slip
@@ -59,7 +59,7 @@ ceilingIn Off = 0
 
 -- the record that bytes of a kind are fit to book as, an order with the ceiling that its school has on the roster; a closing record never is
 unfoldable pub fitAs : Kind → List ℕ → List ℕ → Fit
-fitAs order s roster = ordering (lineKey order s) (record { copies = copiesIn order s .0 }) (ceilingIn (standing roster (schoolIn order s)))
+fitAs order s roster = ordering (lineKey order s) (record { copies = copiesIn order s .0; article = articleIn order s }) (ceilingIn (standing roster (schoolIn order s)))
 fitAs goods s roster = arriving (lineKey goods s) (record { slip = slipKey s; copies = copiesIn goods s .0 })
 fitAs closing s roster = telling [] (record { hold = J })
 fitAs report s roster = telling (lineKey report s) (record { hold = holdOf (markIn s) })

@@ -1,7 +1,7 @@
 -- Cases of articles: whether a record named its line's article, and that no answer and no figure hangs on it (RULES 6.1, 7.2).
 use Prim.Native.Nat.{ℕ, suc}
 use Prim.Native.String.{String}
-use mathlib.Core.Bool.{Bool, _&&_}
+use mathlib.Core.Bool.{_&&_}
 use mathlib.Core.List.{List, [], _∷_, map}
 use lib.Dec.{eqb}
 use lib.Seq.{sets}

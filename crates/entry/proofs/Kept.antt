@@ -6,16 +6,16 @@ use Prim.Native.Nat.{ℕ, _+_, _*_, _≤_, _<_}
 use native.Mathlib.Nat.{add-zero}
 use native.Mathlib.Decide.{decLe}
 use native.Mathlib.Omega.{arith}
-use lib.ListN.{length, getD, take, length-append}
-use lib.Seq.{slice, sets, length-sets, take-at}
+use lib.ListN.{length, getD, take, drop, length-append}
+use lib.Seq.{slice, sets, length-sets, take-all, take-at, drop-at}
 use Rattle.cells.specs.Little.{leAt, leBytes}
 use Rattle.cells.proofs.Numbers.{le-back}
-use Rattle.cells.proofs.Within.{front-within}
+use Rattle.cells.proofs.Within.{part-within, front-within}
 use Rattle.cells.proofs.Stores.{sets-before, sets-after, sets-in, sets-part, sets-aside, le-in, part-ext, number-ext, front-ext}
 use Rattle.rules.specs.Values.{copies}
 use Rattle.rules.specs.declared.amount.Copies.{Copies}
 use Rattle.entry.specs.Line.{markOf, markByte}
-use Rattle.entry.specs.Stored.{lineWidth, keyWidth, orderedAt, markAt, arrivedAt, slipWidth, slipKeyWidth, slipCopiesPlace, lineAt, lineBytes, putLine, addLine, keyAt, slipKeyAt, slipLineAt, slipCopiesAt, addSlip}
+use Rattle.entry.specs.Stored.{lineWidth, keyWidth, orderedAt, markAt, arrivedAt, slipWidth, slipKeyWidth, slipCopiesPlace, lineAt, lineBytes, putLine, addLine, keyAt, articleAt, slipKeyAt, slipLineAt, slipCopiesAt, addSlip}
 use Rattle.entry.specs.declared.line.Mark.{Mark}
 use Rattle.entry.specs.declared.line.Mark.the-variants.{Unmarked, Held, Dropped}
 use Rattle.entry.specs.declared.line.Line.{Line}
@@ -45,13 +45,21 @@ line-ext s t j b = λ x. record {
 unfoldable pub namedAt : List ℕ → ℕ → List ℕ
 namedAt lines i = slice (lineWidth * i) (lineWidth * i + orderedAt) lines
 
--- so two lines that are named alike have one key
-pub key-named : (ls : List ℕ) (j : ℕ) → keyAt ls j ≡ take keyWidth (namedAt ls j)
+key-named : (ls : List ℕ) (j : ℕ) → keyAt ls j ≡ take keyWidth (namedAt ls j)
 unfolding keyAt namedAt
 key-named ls j = sym (front-within ls (lineWidth * j) (lineWidth * j + orderedAt) keyWidth (omega arith))
 
-key-alike : (s t : List ℕ) (j : ℕ) → namedAt s j ≡ namedAt t j → keyAt s j ≡ keyAt t j
-key-alike s t j e = key-named s j ∙ ap (take keyWidth) e ∙ sym (key-named t j)
+article-named : (ls : List ℕ) (j : ℕ) → articleAt ls j ≡ slice keyWidth orderedAt (namedAt ls j)
+unfolding articleAt namedAt
+article-named ls j = sym (part-within ls (lineWidth * j) (lineWidth * j + orderedAt) keyWidth orderedAt (omega arith))
+
+-- so lines that are named alike have one key and one article
+module _ (s t : List ℕ) (j : ℕ) (e : namedAt s j ≡ namedAt t j) where
+  key-alike : keyAt s j ≡ keyAt t j
+  key-alike = key-named s j ∙ ap (take keyWidth) e ∙ sym (key-named t j)
+
+  article-alike : articleAt s j ≡ articleAt t j
+  article-alike = article-named s j ∙ ap (slice keyWidth orderedAt) e ∙ sym (article-named t j)
 
 -- a line's values written at i, in the seven bytes after its key and article
 module _ (ls : List ℕ) (i : ℕ) (l : Line) where
@@ -97,6 +105,9 @@ module _ (ls : List ℕ) (i : ℕ) (l : Line) where
   pub put-key : (j : ℕ) → keyAt (putLine ls i l) j ≡ keyAt ls j
   put-key j = key-alike (putLine ls i l) ls j (put-named j)
 
+  pub put-article : (j : ℕ) → articleAt (putLine ls i l) j ≡ articleAt ls j
+  put-article j = article-alike (putLine ls i l) ls j (put-named j)
+
 -- a line written at i with its key and article
 module _ (ls : List ℕ) (i : ℕ) (named : List ℕ) (l : Line) where
   pub add-length : length (addLine ls i named l) ≡ length ls
@@ -136,11 +147,21 @@ module _ (ls : List ℕ) (i : ℕ) (named : List ℕ) (l : Line) where
     pub add-key-apart : (j : ℕ) → j ≢ i → keyAt (addLine ls i named l) j ≡ keyAt ls j
     add-key-apart j ne = key-alike (addLine ls i named l) ls j (add-named-apart j ne)
 
--- its key comes first in what it is named by
-pub add-key : (ls : List ℕ) (i : ℕ) (key article : List ℕ) (l : Line) → length key ≡ keyWidth → length (key ++ article) ≡ orderedAt → lineWidth * i + lineWidth ≤ length ls
-    → keyAt (addLine ls i (key ++ article) l) i ≡ key
-add-key ls i key article l wide whole h =
-    key-named (addLine ls i (key ++ article) l) i ∙ ap (take keyWidth) (add-named ls i (key ++ article) l whole h) ∙ take-at key article keyWidth wide
+    pub add-article-apart : (j : ℕ) → j ≢ i → articleAt (addLine ls i named l) j ≡ articleAt ls j
+    add-article-apart j ne = article-alike (addLine ls i named l) ls j (add-named-apart j ne)
+
+-- its key comes first in what it is named by, then its article
+module _ (ls : List ℕ) (i : ℕ) (key article : List ℕ) (l : Line) (wide : length key ≡ keyWidth) (whole : length (key ++ article) ≡ orderedAt) (room : lineWidth * i + lineWidth ≤ length ls) where
+  pub add-key : keyAt (addLine ls i (key ++ article) l) i ≡ key
+  add-key =
+      key-named (addLine ls i (key ++ article) l) i ∙ ap (take keyWidth) (add-named ls i (key ++ article) l whole room) ∙ take-at key article keyWidth wide
+
+  pub add-article : articleAt (addLine ls i (key ++ article) l) i ≡ article
+  add-article =
+      article-named (addLine ls i (key ++ article) l) i
+      ∙ ap (slice keyWidth orderedAt) (add-named ls i (key ++ article) l whole room)
+      ∙ ap (drop keyWidth) (take-all orderedAt (key ++ article) (omega (arith, whole)))
+      ∙ drop-at key article keyWidth wide
 
 -- a slip written at i
 module _ (ss : List ℕ) (i : ℕ) (key : List ℕ) (line : ℕ) (n : Copies) where

@@ -25,8 +25,10 @@ ofSchool school k = same school (schoolOf k)
 pub data Hold : Type 0 where
   J N : Hold
 
+-- an order's article, with its qualifier, is kept in its line, and nothing else hangs on it
 pub record Order : Type 0 where
   pub copies : ℕ
+  pub article : List ℕ
 
 pub record Goods : Type 0 where
   pub slip : Key
@@ -35,7 +37,7 @@ pub record Goods : Type 0 where
 pub record Report : Type 0 where
   pub hold : Hold
 
--- a line: its key, its order with the quantity Q, the sum A of its slips, and its last report if any
+-- a line: its key, its order with the quantity Q and the article, the sum A of its slips, and its last report if any
 pub record Line : Type 0 where
   pub key : Key
   pub asked : Order

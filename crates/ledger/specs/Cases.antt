@@ -28,7 +28,7 @@ slip position = bytes "24000     VD43210     VD2024022670012345  " ++ bytes posi
 
 -- an order under a ceiling, and one under a ceiling that is never in its way
 abbrev pub orderingUnder : ℕ → Key → ℕ → Fit
-orderingUnder ceiling k n = order k (record { copies = n }) ceiling
+orderingUnder ceiling k n = order k (record { copies = n; article = bytes "9783442756841EN" }) ceiling
 
 abbrev pub ordering : Key → ℕ → Fit
 ordering k n = orderingUnder 1000000 k n

@@ -10,7 +10,6 @@ use lib.ListN.{length, getD, take}
 use Rattle.cells.specs.Bytes.{within, same}
 use Rattle.cells.specs.Little.{leAt}
 use Rattle.cells.proofs.Bools.{and-left}
-use Rattle.record.specs.declared.layout.Kind.the-variants.{Goods}
 use Rattle.entry.specs.Stored.{keyWidth, orderedAt, markAt, slipKeyWidth, mostCopies, keyAt, slipKeyAt}
 use Rattle.book.specs.Lent.{Lent, usedLines, usedSlips}
 use Rattle.cells.proofs.Searches.{all-at}
