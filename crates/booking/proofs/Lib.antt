@@ -1,3 +1,2 @@
-pub mod Entered
 pub mod Rooms
 pub mod Stages

@@ -8,17 +8,14 @@ ghost use Rattle.record.specs.Layout.{fixedWidth};
 ghost use Rattle.entry.specs.Stored.{mostCopies};
 ghost use Rattle.book.specs.Lent.{lent, sound};
 ghost use Rattle.book.specs.Booking.{copiesIn, outcome, bookAs, book};
-
-pub mod enter;
-
-use crate::enter::enter_goods;
-use crate::enter::enter_order;
-use crate::enter::enter_report;
 use book::answer::Booked;
 use book::answer::Refused;
 use book::answer::Verdict;
 use book::answer::not_booked;
 use book::seek::is_sound;
+use entering::enter_goods;
+use entering::enter_order;
+use entering::enter_report;
 use judging::judge::judge_goods;
 use judging::judge::judge_order;
 use judging::judge::judge_report;

@@ -1,8 +1,8 @@
--- `booking::enter::agreed` meets its contract.
+-- `entering::agreed` meets its contract.
 use mathlib.Core.Path.{refl}
 use borrow.Author.Needs.{needs}
-use Rattle.booking.proofs.enter.agreed.Statement.{statement}
-use Rattle.booking.proofs.enter.agreed.Tie as tie
+use Rattle.entering.proofs.agreed.Statement.{statement}
+use Rattle.entering.proofs.agreed.Tie as tie
 
 article-is-requires : tie.Need-article-is-requires
 article-is-requires c κs = search needs

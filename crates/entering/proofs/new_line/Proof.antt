@@ -1,8 +1,8 @@
--- `booking::enter::new_line` meets its contract.
+-- `entering::new_line` meets its contract.
 use mathlib.Core.Path.{refl}
 use Rattle.book.specs.Booking.{newLine}
-use Rattle.booking.proofs.enter.new_line.Statement.{statement}
-use Rattle.booking.proofs.enter.new_line.Tie as tie
+use Rattle.entering.proofs.new_line.Statement.{statement}
+use Rattle.entering.proofs.new_line.Tie as tie
 
 returns : tie.Need-returns
 unfolding newLine

@@ -1,10 +1,10 @@
--- `booking::enter::mark_in` meets its contract: the mark is one byte, J or not.
+-- `entering::mark_in` meets its contract: the mark is one byte, J or not.
 use mathlib.Core.Path.{sym}
 use native.Mathlib.Omega.{arith}
 use Rattle.values.proofs.Places.{report-width}
-use Rattle.booking.proofs.Entered.{mark-held, mark-dropped}
-use Rattle.booking.proofs.enter.mark_in.Statement.{statement}
-use Rattle.booking.proofs.enter.mark_in.Tie as tie
+use Rattle.entering.proofs.Entered.{mark-held, mark-dropped}
+use Rattle.entering.proofs.mark_in.Statement.{statement}
+use Rattle.entering.proofs.mark_in.Tie as tie
 
 shared-slice-read-if1 : tie.Need-shared-slice-read-if1
 shared-slice-read-if1 c = omega (arith, report-width)

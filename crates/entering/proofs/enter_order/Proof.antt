@@ -1,4 +1,4 @@
--- `booking::enter::enter_order` meets its contract.
+-- `entering::enter_order` meets its contract.
 use mathlib.Core.Path.{_∙_, ap}
 use native.Mathlib.Omega.{arith}
 use lib.ListN.{length}
@@ -6,10 +6,10 @@ use Rattle.rules.proofs.Parts.{part-most}
 use Rattle.book.proofs.Fields.{order-named-long}
 use Rattle.judging.proofs.Named.{order-parts}
 use Rattle.judging.proofs.Stages.{order-copies}
-use Rattle.booking.proofs.Entered.{order-entered}
+use Rattle.entering.proofs.Entered.{order-entered}
 use borrow.Author.Needs.{needs}
-use Rattle.booking.proofs.enter.enter_order.Statement.{statement}
-use Rattle.booking.proofs.enter.enter_order.Tie as tie
+use Rattle.entering.proofs.enter_order.Statement.{statement}
+use Rattle.entering.proofs.enter_order.Tie as tie
 
 part-requires : tie.Need-part-requires
 part-requires c κs = search needs

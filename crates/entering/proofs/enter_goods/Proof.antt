@@ -1,13 +1,13 @@
--- `booking::enter::enter_goods` meets its contract.
+-- `entering::enter_goods` meets its contract.
 use native.Mathlib.Omega.{arith}
 use Rattle.rules.proofs.Parts.{part-most}
 use Rattle.judging.proofs.Named.{goods-article-is}
 use Rattle.judging.proofs.Stages.{goods-copies}
 use Rattle.book.proofs.Fields.{slip-key-long}
-use Rattle.booking.proofs.Entered.{goods-entered}
+use Rattle.entering.proofs.Entered.{goods-entered}
 use borrow.Author.Needs.{needs}
-use Rattle.booking.proofs.enter.enter_goods.Statement.{statement}
-use Rattle.booking.proofs.enter.enter_goods.Tie as tie
+use Rattle.entering.proofs.enter_goods.Statement.{statement}
+use Rattle.entering.proofs.enter_goods.Tie as tie
 
 part-requires : tie.Need-part-requires
 part-requires c κs = search needs

@@ -1,9 +1,9 @@
--- `booking::enter::enter_report` meets its contract.
+-- `entering::enter_report` meets its contract.
 use Rattle.judging.proofs.Named.{report-article-is}
-use Rattle.booking.proofs.Entered.{report-entered}
+use Rattle.entering.proofs.Entered.{report-entered}
 use borrow.Author.Needs.{needs}
-use Rattle.booking.proofs.enter.enter_report.Statement.{statement}
-use Rattle.booking.proofs.enter.enter_report.Tie as tie
+use Rattle.entering.proofs.enter_report.Statement.{statement}
+use Rattle.entering.proofs.enter_report.Tie as tie
 
 part-requires : tie.Need-part-requires
 part-requires c κs = search needs
