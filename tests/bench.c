@@ -24,9 +24,8 @@ enum {
     PASSES = 10, REPETITIONS = 4, LEAST_NANOSECONDS = 2000000,
     MOST_RECORDS = 64, FILE_ROOM = 65536, LONGEST = 1024, FULL_TABLE = 192, TEXT = 128,
     ORDER_LENGTH = 67, DELIVERY_LENGTH = 108, REPORT_LENGTH = 79,
-    ADDRESS = 10, QUALIFIER = 2, NAME = 10, ARTICLE = 13,
+    ADDRESS = 10, QUALIFIER = 2, NAME = 10,
     SUPPLIER_PLACE = ADDRESS + QUALIFIER, REFERENCE_PLACE = 2 * SUPPLIER_PLACE,
-    ARTICLE_PLACE = REFERENCE_PLACE + NAME,
     LINE = 56, SLIP = 50, SAVED_LINE = 53, SAVED_SLIP = 51, SAVED_END = 5,
     SCHOOLS = 30, MIDDLE = SCHOOLS / 2, MOST_SCHOOLS = 64,
     MOST_LINES = 512, MOST_SLIPS = 2 * MOST_LINES, POSITIONS_ON_A_SLIP = 8,
@@ -68,10 +67,9 @@ struct side {
                         const uint8_t *, size_t, uint8_t *, size_t);
     wq_booked (*book)(const uint8_t *, size_t, const uint8_t *, size_t, uint8_t *, size_t,
                       uint8_t *, size_t, size_t *);
-    wq_booked (*line)(const uint8_t *, size_t, const uint8_t *, size_t, const uint8_t *, size_t,
-                      const uint8_t *, size_t, const uint8_t *, size_t, const uint8_t *, size_t,
-                      const uint8_t *, size_t, const uint8_t *, size_t, const uint8_t *, size_t,
-                      const size_t *);
+    wq_told (*line)(const uint8_t *, size_t, const uint8_t *, size_t, const uint8_t *, size_t,
+                    const uint8_t *, size_t, const uint8_t *, size_t, const uint8_t *, size_t,
+                    const uint8_t *, size_t, const size_t *);
     wq_saved (*save)(const uint8_t *, size_t, const uint8_t *, size_t, const size_t *,
                      uint8_t *, size_t);
     wq_loaded (*load)(const uint8_t *, size_t, uint8_t *, size_t, uint8_t *, size_t, size_t *);
@@ -102,7 +100,9 @@ struct task {
     size_t count; /* calls in a round */
     char text[TEXT];
     wq_booked booked;
+    wq_told told;
 };
+static const struct task one_call = {NULL, 1, "", {0, 0, 0, 0, 0, 0, 0, 0}, {0, 0, 0, 0, 0, 0, 0}};
 
 /* Makes a task's calls so many times; gives 0 where every answer is the expected one. */
 typedef uint64_t run(const struct side *side, const struct task *task, size_t rounds);
@@ -140,6 +140,14 @@ static void insist(int holds, const char *what)
 }
 
 static uint64_t unlike(const wq_booked *one, const wq_booked *other)
+{
+    return (one->answer ^ other->answer) | (one->place ^ other->place)
+         | (one->ordered ^ other->ordered) | (one->filled ^ other->filled)
+         | (one->still_open ^ other->still_open) | (one->let_go ^ other->let_go)
+         | (one->extra ^ other->extra) | (one->agreed ^ other->agreed);
+}
+
+static uint64_t unlike_told(const wq_told *one, const wq_told *other)
 {
     return (one->answer ^ other->answer) | (one->place ^ other->place)
          | (one->ordered ^ other->ordered) | (one->filled ^ other->filled)
@@ -197,14 +205,13 @@ static uint64_t run_book(const struct side *side, const struct task *task, size_
 }
 
 /* The call by key, of the last line. */
-static wq_booked last_line(const struct side *side)
+static wq_told last_line(const struct side *side)
 {
     const uint8_t *school = kept.lines + (kept.used[0] - 1) * LINE;
-    const uint8_t *supplier = school + SUPPLIER_PLACE, *article = school + ARTICLE_PLACE;
+    const uint8_t *supplier = school + SUPPLIER_PLACE;
     return side->line(school, ADDRESS, school + ADDRESS, QUALIFIER,
                       supplier, ADDRESS, supplier + ADDRESS, QUALIFIER,
                       school + REFERENCE_PLACE, NAME,
-                      article, ARTICLE, article + ARTICLE, QUALIFIER,
                       lent.lines, lent.lines_length, lent.slips, lent.slips_length, lent.used);
 }
 
@@ -212,8 +219,8 @@ static uint64_t run_line(const struct side *side, const struct task *task, size_
 {
     uint64_t wrong = 0;
     while (rounds-- > 0) {
-        wq_booked got = last_line(side);
-        wrong |= unlike(&got, &task->booked);
+        wq_told got = last_line(side);
+        wrong |= unlike_told(&got, &task->told);
     }
     return wrong;
 }
@@ -353,7 +360,8 @@ static void take_record(struct record *record, const uint8_t *bytes, size_t leng
     insist(memcmp(&got, &record->checked, sizeof got) == 0
            && memcmp(table, record->table, sizeof table) == 0, "a record is read differently");
     insist(got.answer == ANSWER_DONE, "the file holds a record that is refused");
-    const struct task task = {record, 1, "", {0, 0, 0, 0, 0, 0, 0}};
+    struct task task = one_call;
+    task.records = record;
     for (size_t side = 0; side < SIDES; side++) {
         memset(out, 0, LONGEST);
         insist(run_write(&sides[side], &task, 1) == 0 && memcmp(out, bytes, length) == 0,
@@ -510,7 +518,7 @@ static void expect(struct task *task, uint64_t answer)
 
 static struct task delivery_task(const struct book_kind *kind)
 {
-    struct task task = {NULL, 1, "", {0, 0, 0, 0, 0, 0, 0}};
+    struct task task = one_call;
     delivery_text(task.text, kind, kept.used[0] - 1, kept.used[1]);
     expect(&task, ANSWER_DONE);
     return task;
@@ -518,7 +526,7 @@ static struct task delivery_task(const struct book_kind *kind)
 
 static struct task repeated_task(const struct book_kind *kind)
 {
-    struct task task = {NULL, 1, "", {0, 0, 0, 0, 0, 0, 0}};
+    struct task task = one_call;
     delivery_text(task.text, kind, kept.used[0] - 1, kept.used[1] - 1);
     expect(&task, ANSWER_REPEATED);
     return task;
@@ -526,7 +534,7 @@ static struct task repeated_task(const struct book_kind *kind)
 
 static struct task order_task(const struct book_kind *kind)
 {
-    struct task task = {NULL, 1, "", {0, 0, 0, 0, 0, 0, 0}};
+    struct task task = one_call;
     order_text(task.text, kind, kept.used[0]);
     expect(&task, ANSWER_DONE);
     return task;
@@ -534,7 +542,7 @@ static struct task order_task(const struct book_kind *kind)
 
 static struct task report_task(const struct book_kind *kind)
 {
-    struct task task = {NULL, 1, "", {0, 0, 0, 0, 0, 0, 0}};
+    struct task task = one_call;
     report_text(task.text, kind, kept.used[0] - 1);
     expect(&task, ANSWER_DONE);
     return task;
@@ -542,16 +550,16 @@ static struct task report_task(const struct book_kind *kind)
 
 static struct task line_task(const struct book_kind *kind)
 {
-    struct task task = {NULL, 1, "", {0, 0, 0, 0, 0, 0, 0}};
+    struct task task = one_call;
     (void)kind;
-    task.booked = last_line(&sides[REFERENCE]);
-    insist(task.booked.answer == ANSWER_DONE, "the last line has no figures");
+    task.told = last_line(&sides[REFERENCE]);
+    insist(task.told.answer == ANSWER_DONE, "the last line has no figures");
     return task;
 }
 
 static struct task save_task(const struct book_kind *kind)
 {
-    struct task task = {NULL, 1, "", {0, 0, 0, 0, 0, 0, 0}};
+    struct task task = one_call;
     (void)kind;
     agree_on_saves();
     return task;

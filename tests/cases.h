@@ -20,7 +20,7 @@ void compare_far_books(struct dice *dice);
 void compare_far_saves(struct dice *dice);
 void compare_far_rosters(struct dice *dice);
 
-/* compare_book.c: the figures of a line by its key of 49 bytes. */
+/* compare_book.c: the figures of a line by its key of 34 bytes. */
 uint64_t ask_line(const uint8_t *key, struct shelf *shelf);
 
 /* compare_book.c: a record of this shape for this key; where a slip is given, as that slip. */

@@ -151,7 +151,7 @@ static void agree_on_order(struct dice *dice, const struct roster *roster,
                            const uint8_t *account, uint64_t told, uint64_t ceiling)
 {
     static struct shelf shelf;
-    uint8_t key[IN_KEY];
+    uint8_t key[IN_TITLED];
     unique_line_key(key, 0);
     memcpy(key, account, IN_PARTY);
     size_t most = ceiling < IN_MOST_COPIES ? (size_t)ceiling : IN_MOST_COPIES - 1;

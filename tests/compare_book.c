@@ -3,10 +3,10 @@
 
 #include <string.h>
 
-enum { HISTORY = 32, WIDEST = 13, LONGER = 256, LONGEST_FIELD = WIDEST + LONGER };
+enum { HISTORY = 32, WIDEST = 10, LONGER = 256, LONGEST_FIELD = WIDEST + LONGER };
 
-/* Widths of the seven fields of a line's key. */
-static const size_t part_widths[KEY_PARTS] = {10, 2, 10, 2, 10, 13, 2};
+/* Widths of the five fields of a line's key. */
+static const size_t part_widths[KEY_PARTS] = {10, 2, 10, 2, 10};
 
 uint64_t ask_line(const uint8_t *key, struct shelf *shelf)
 {
@@ -51,7 +51,7 @@ static void pick_key(struct dice *dice, const struct shelf *shelf, size_t variet
     size_t room = shelf->lines_length / IN_LINE;
     size_t used = shelf->used[0] < room ? shelf->used[0] : room;
     if (used > 0 && !chance(dice, 3))
-        memcpy(key, shelf->lines + below(dice, used) * IN_LINE, IN_KEY);
+        memcpy(key, shelf->lines + below(dice, used) * IN_LINE, IN_TITLED);
     else
         make_line_key(dice, variety, key);
 }
@@ -65,7 +65,7 @@ static size_t make_booking(struct dice *dice, const struct shelf *shelf, size_t 
                                         REPORT_SHAPE, REPORT_SHAPE, ADVANCE_SHAPE,
                                         CLOSING_SHAPE};
     struct sheet sheet;
-    uint8_t key[IN_KEY];
+    uint8_t key[IN_TITLED];
     enum shape shape = shapes[below(dice, chance(dice, 3) ? 12 : 10)];
     size_t copies = chance(dice, 12) ? 0 : chance(dice, 6) ? 9999 : between(dice, 1, 6);
     if (shape == ORDER_SHAPE)
@@ -85,7 +85,7 @@ static void book_sequence(struct dice *dice, struct shelf *shelf, size_t steps,
                           size_t variety, int by_bookings)
 {
     static uint8_t history[HISTORY][RECORD_ROOM];
-    uint8_t key[IN_KEY];
+    uint8_t key[IN_TITLED];
     size_t lengths[HISTORY], known = 0;
     for (size_t step = 0; step < steps; step++) {
         size_t at = known < HISTORY ? known++ : below(dice, HISTORY);
@@ -224,7 +224,7 @@ static void try_all(struct dice *dice, const struct shelf *shelf)
 {
     static struct shelf copy;
     static uint8_t out[SAVE_ROOM];
-    uint8_t record[RECORD_ROOM], key[IN_KEY];
+    uint8_t record[RECORD_ROOM], key[IN_TITLED];
     size_t length = make_booking(dice, shelf, 1, record);
     if (chance(dice, 3))
         record[below(dice, length)] = (uint8_t)roll(dice);

@@ -20,7 +20,7 @@ uint64_t order_under(struct dice *dice, struct shelf *shelf, const uint8_t *acco
                      size_t copies, uint64_t ceiling)
 {
     static struct roster roster;
-    uint8_t key[IN_KEY];
+    uint8_t key[IN_TITLED];
     const struct booking booking = {ORDER_SHAPE, key, copies, NULL};
     new_key(account, key);
     make_roster(dice, &roster, account, ceiling);
@@ -101,7 +101,7 @@ static void order_by_first(struct dice *dice)
 {
     static struct roster roster;
     static struct shelf shelf;
-    uint8_t key[IN_KEY];
+    uint8_t key[IN_TITLED];
     new_key(ours, key);
     for (size_t i = 0; i < 24; i++) {
         const struct booking booking = {ORDER_SHAPE, key, some_copies(dice), NULL};

@@ -225,7 +225,7 @@ static void check_articles(struct dice *dice)
             continue;
         uint8_t *article = sheet.fixed + (shape == ORDER_SHAPE ? 46
                                         : shape == REPORT_SHAPE ? 48 : 60);
-        make_article(dice, article);
+        make_title(dice, article);
         for (size_t changes = below(dice, 3); changes > 0; changes--)
             article[below(dice, 13)] = (uint8_t)few[below(dice, sizeof few - 1)];
         if (chance(dice, 8))

@@ -28,7 +28,7 @@ static uint64_t deliver_new(struct dice *dice, struct shelf *shelf, const uint8_
 static void fill_rooms(struct dice *dice, size_t line_room, size_t slip_room)
 {
     static struct shelf shelf;
-    uint8_t key[IN_KEY];
+    uint8_t key[IN_TITLED];
     make_shelf(dice, &shelf, line_room, slip_room);
     stock_unique(dice, &shelf, line_room - MISSING, slip_room - MISSING);
     for (size_t i = line_room - 2 * MISSING; i < line_room + OVER; i++) {
@@ -52,8 +52,8 @@ static void find_far_line(struct dice *dice, struct shelf *shelf, size_t index)
 {
     int far = is_within(index, 64, 489);
     size_t slips = shelf->used[1];
-    uint8_t key[IN_KEY];
-    memcpy(key, shelf->lines + index * IN_LINE, IN_KEY);
+    uint8_t key[IN_TITLED];
+    memcpy(key, shelf->lines + index * IN_LINE, IN_TITLED);
     expect(LINE_ASKED_64_TO_489, far, ask_line(key, shelf), 0);
     expect(ORDER_AGAIN_64_TO_489, far, book_one(dice, shelf, ORDER_SHAPE, key, 7, NULL), 14);
     expect(DELIVERY_FOR_64_TO_489, far, deliver_new(dice, shelf, key, 3), 0);
@@ -84,10 +84,10 @@ static void repeat_with_copies(struct dice *dice, struct shelf *shelf, size_t in
 /* 17 and 18 by a slip far behind, by its line and by its copies. */
 static void repeat_slip(struct dice *dice, struct shelf *shelf, size_t index)
 {
-    uint8_t slip[IN_SLIP], key[IN_KEY];
+    uint8_t slip[IN_SLIP], key[IN_TITLED];
     memcpy(slip, shelf->slips + index * IN_SLIP, IN_SLIP);
     size_t line = get_little(slip + IN_LINE_OF_SLIP, 2), copies = get_little(slip + IN_COPIES, 2);
-    memcpy(key, shelf->lines + line * IN_LINE, IN_KEY);
+    memcpy(key, shelf->lines + line * IN_LINE, IN_TITLED);
     expect(SLIP_AGAIN_FROM_64, index >= 64,
            book_one(dice, shelf, GOODS_SHAPE, key, copies, slip), 17);
     came_up(SLIP_AGAIN_ON_LINE_FROM_256, line >= 256);
@@ -96,7 +96,7 @@ static void repeat_slip(struct dice *dice, struct shelf *shelf, size_t index)
     line = line >= LOW_BYTE ? line - LOW_BYTE : line + LOW_BYTE;
     if (line >= shelf->used[0])
         return;
-    memcpy(key, shelf->lines + line * IN_LINE, IN_KEY);
+    memcpy(key, shelf->lines + line * IN_LINE, IN_TITLED);
     expect(SLIP_OF_LINE_256_BEFORE, 1,
            book_one(dice, shelf, GOODS_SHAPE, key, copies, slip), 18);
 }
@@ -115,7 +115,7 @@ static void find_far(struct dice *dice, size_t lines, size_t slips)
 {
     static const size_t indexes[] = {63, 64, 65, 100, 127, 128, 200, 254, 255, 256, 257, 0, 0};
     static struct shelf shelf;
-    uint8_t key[IN_KEY];
+    uint8_t key[IN_TITLED];
     make_shelf(dice, &shelf, MOST_LINES, MOST_SLIPS);
     stock_unique(dice, &shelf, lines, slips);
     for (size_t i = 0; i < sizeof indexes / sizeof indexes[0]; i++) {
@@ -134,7 +134,7 @@ static void find_far(struct dice *dice, size_t lines, size_t slips)
 static void refuse_book(struct dice *dice, struct shelf *shelf, enum class class)
 {
     static uint8_t out[FULL_SAVE];
-    uint8_t key[IN_KEY];
+    uint8_t key[IN_TITLED];
     unique_line_key(key, below(dice, 2) * MOST_LINES);
     expect(class, 1, book_one(dice, shelf, ORDER_SHAPE, key, 7, NULL), 20);
     expect(class, 1, deliver_new(dice, shelf, key, 7), 20);

@@ -15,7 +15,7 @@ static void meet_far_lengths(struct dice *dice)
 {
     static struct roster roster;
     static struct shelf shelf;
-    uint8_t key[IN_KEY];
+    uint8_t key[IN_TITLED];
     unique_line_key(key, 0);
     for (size_t i = 0; i < 12; i++) {
         enum shape shape = i % 3 == 0 ? REPORT_SHAPE : i % 3 == 1 ? ORDER_SHAPE : GOODS_SHAPE;

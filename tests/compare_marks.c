@@ -224,7 +224,7 @@ static void put_in_book(struct dice *dice, int in_line, uint8_t byte)
 }
 
 /* The keys of a line and of its slip, and where the mark stands in the name of each. */
-struct marked { uint8_t key[IN_KEY], slip[IN_SLIP_KEY], *in_reference, *in_number; };
+struct marked { uint8_t key[IN_TITLED], slip[IN_SLIP_KEY], *in_reference, *in_number; };
 
 static uint64_t book_marked(struct dice *dice, struct shelf *shelf, enum shape shape,
                             const struct marked *marked, size_t copies)

@@ -63,8 +63,8 @@ static void make_full_book(struct dice *dice, struct shelf *shelf, const uint8_t
 static void try_probe(struct dice *dice, const struct probe *probe, const struct roster *roster,
                       struct shelf *shelf, enum meeting meeting, enum class class)
 {
-    uint8_t key[IN_KEY], slip[IN_SLIP_KEY];
-    memcpy(key, shelf->lines, IN_KEY);
+    uint8_t key[IN_TITLED], slip[IN_SLIP_KEY];
+    memcpy(key, shelf->lines, IN_TITLED);
     if (probe->line == OTHER)
         key[IN_REFERENCE] ^= 1;
     if (probe->line == BLANK)

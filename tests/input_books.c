@@ -19,7 +19,7 @@ void make_shelf(struct dice *dice, struct shelf *shelf, size_t line_room, size_t
 void stock_shelf(struct dice *dice, struct shelf *shelf, size_t lines, size_t slips,
                  size_t variety)
 {
-    uint8_t key[IN_KEY];
+    uint8_t key[IN_TITLED];
     for (size_t i = 0; i < lines; i++) {
         uint8_t *line = shelf->lines + i * IN_LINE;
         make_line_key(dice, variety, line);
@@ -57,7 +57,7 @@ static void unique_name(uint8_t *name, char letter, size_t number)
 
 void unique_line_key(uint8_t *key, size_t number)
 {
-    memcpy(key, "43210     VD24000     VD          9783442756841EN", IN_KEY);
+    memcpy(key, "43210     VD24000     VD          9783442756841EN", IN_TITLED);
     unique_name(key + IN_REFERENCE, 'R', number);
 }
 
@@ -140,7 +140,7 @@ size_t make_save(struct dice *dice, uint8_t *saved, size_t lines, size_t slips, 
     for (size_t i = 0; i < lines; i++, to += IN_SAVED_LINE) {
         to[0] = 1;
         unique_line_key(to + 1, i);
-        make_article(dice, to + 1 + 34);
+        make_title(dice, to + 1 + IN_KEY);
         put_little(to + 50, 2, between(dice, 1, 9999));
         to[52] = (uint8_t)below(dice, 3);
     }

@@ -131,7 +131,7 @@ void add_some_fields(struct dice *dice, struct sheet *sheet, size_t most)
 /* A valid record of this shape in parts. */
 void make_sheet(struct dice *dice, struct sheet *sheet, enum shape shape, size_t most)
 {
-    uint8_t key[IN_KEY];
+    uint8_t key[IN_TITLED];
     make_line_key(dice, chance(dice, 2) ? 0 : 4, key);
     make_fixed(dice, sheet, shape, key, chance(dice, 9) ? 0 : between(dice, 1, 9999));
     if (chance(dice, 9) && shape != CLOSING_SHAPE)

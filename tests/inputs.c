@@ -156,7 +156,7 @@ static void make_isbn(struct dice *dice, uint8_t *article)
 }
 
 /* An article of any of the five qualifiers, and the qualifier behind it. */
-void make_article(struct dice *dice, uint8_t *to)
+void make_title(struct dice *dice, uint8_t *to)
 {
     static const char *const qualifiers[] = {"EN", "IB", "KN", "UM", "RK"};
     size_t which = below(dice, 5);
@@ -204,19 +204,19 @@ void make_line_key(struct dice *dice, size_t variety, uint8_t *key)
         "24000     VD", "24000     SA", "43210     VD", "GROSSO2400IB"};
     static const char *const references[] = {
         "A-17      ", "A-17     \x96", "\x84Q\x93 2\xff\xa0 \x9f ", "ABCDEFGHIJ"};
-    static const char *const articles[] = {
+    static const char *const titles[] = {
         "9783442756841EN", "344275688X   IB", "1234567      UM", "1234567      KN"};
     if (variety == 0) {
         make_party(dice, key);
         make_party(dice, key + 12);
         make_text(dice, key + 24, 10);
-        make_article(dice, key + 34);
+        make_title(dice, key + IN_KEY);
         return;
     }
     memcpy(key, schools[below(dice, variety)], 12);
     memcpy(key + 12, suppliers[below(dice, variety)], 12);
     memcpy(key + 24, references[below(dice, variety)], 10);
-    memcpy(key + 34, articles[below(dice, variety)], 15);
+    memcpy(key + IN_KEY, titles[below(dice, variety)], IN_TITLE);
 }
 
 /* Date, slip number and position of a goods record. */
@@ -271,7 +271,7 @@ static void make_report(struct dice *dice, uint8_t *fixed, const uint8_t *key)
     memset(fixed + 75, '0', 4);
 }
 
-/* The fixed part of a valid record of this shape, with this line's key. */
+/* The fixed part of a valid record of this shape, with this line's key and title. */
 void make_fixed(struct dice *dice, struct sheet *sheet, enum shape shape,
                 const uint8_t *key, size_t copies)
 {

@@ -7,7 +7,10 @@
 enum {
     /* widths of the documents, stated here a second time on purpose */
     IN_ADDRESS = 10, IN_QUALIFIER = 2, IN_PARTY = 12, IN_NAME = 10,
-    IN_KEY = 49, IN_LINE = 56, IN_SLIP_KEY = 46, IN_SLIP = 50,
+    IN_KEY = 34, IN_LINE = 56, IN_SLIP_KEY = 46, IN_SLIP = 50,
+    /* a title is an article with its qualifier; it stands behind the key of a line, and
+       behind the reference of a record */
+    IN_ARTICLE = 13, IN_TITLE = IN_ARTICLE + IN_QUALIFIER, IN_TITLED = IN_KEY + IN_TITLE,
     IN_SAVED_LINE = 53, IN_SAVED_SLIP = 51, IN_SAVED_END = 5,
     IN_SCHOOL = 16, IN_CEILING = 12, IN_MOST_SCHOOLS = 64,
     /* where the parts of a line, of a slip and of a delivery's fixed part start; in a save
@@ -61,9 +64,10 @@ enum shape { ORDER_SHAPE, GOODS_SHAPE, ADVANCE_SHAPE, CLOSING_SHAPE, REPORT_SHAP
 extern const size_t listed_ids[];
 extern const size_t listed_count;
 
-/* Keys come from a small pool (variety 1 to 4 of each field), or are all random (0). */
+/* Keys and titles come from a small pool (variety 1 to 4 of each field), or are all random
+   (0). Whatever makes a line's key puts a title behind it. */
 void make_day(struct dice *dice, uint8_t *date);
-void make_article(struct dice *dice, uint8_t *article_and_qualifier);
+void make_title(struct dice *dice, uint8_t *title);
 void make_party(struct dice *dice, uint8_t *party);
 void make_line_key(struct dice *dice, size_t variety, uint8_t *key);
 void make_slip_part(struct dice *dice, size_t variety, uint8_t *date_number_position);

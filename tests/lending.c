@@ -17,7 +17,7 @@
 #endif
 
 enum {
-    MOST_PIECES = 10, MOST_VALUES = 7, SIDES = 2, GUARD = 64, SLACK = 16,
+    MOST_PIECES = 8, MOST_VALUES = 8, SIDES = 2, GUARD = 64, SLACK = 16,
     DESK_WORDS = 1 << 19, MOST_SHOWN = 4096
 };
 
@@ -139,10 +139,17 @@ static int guards_hold(const struct lending *lending, size_t side)
     return memcmp(desk(side) + end, guard_of(side), GUARD) == 0;
 }
 
-static struct outcome figures(wq_booked booked)
+static struct outcome booked_of(wq_booked booked)
 {
     struct outcome outcome = {{booked.answer, booked.place, booked.ordered, booked.filled,
-                               booked.still_open, booked.let_go, booked.extra}};
+                               booked.still_open, booked.let_go, booked.extra, booked.agreed}};
+    return outcome;
+}
+
+static struct outcome told_of(wq_told told)
+{
+    struct outcome outcome = {{told.answer, told.place, told.ordered, told.filled,
+                               told.still_open, told.let_go, told.extra}};
     return outcome;
 }
 
@@ -194,15 +201,15 @@ static struct outcome run_call(const struct lending *lending, size_t side)
 {
     switch (lending->call) {
     case BOOK:
-        return figures(side == 0
+        return booked_of(side == 0
             ? ref_book(BYTES(0), BYTES(1), BYTES(2), BYTES(3), USED(4))
             : wq_book(BYTES(0), BYTES(1), BYTES(2), BYTES(3), USED(4)));
     case LINE:
-        return figures(side == 0
+        return told_of(side == 0
             ? ref_line(BYTES(0), BYTES(1), BYTES(2), BYTES(3), BYTES(4), BYTES(5), BYTES(6),
-                       BYTES(7), BYTES(8), USED(9))
+                       USED(7))
             : wq_line(BYTES(0), BYTES(1), BYTES(2), BYTES(3), BYTES(4), BYTES(5), BYTES(6),
-                      BYTES(7), BYTES(8), USED(9)));
+                      USED(7)));
     case SAVE: case LOAD:
         return run_save_call(lending, side);
     case ACCOUNT:
@@ -314,6 +321,7 @@ static uint64_t run_both(struct lending *lending)
     tally.seen[lending->call][answer]++;
     tally.place = outcomes[0].values[1];
     tally.value = outcomes[0].values[2];
+    tally.agreed = outcomes[0].values[MOST_VALUES - 1];
     return answer;
 }
 
@@ -387,8 +395,7 @@ uint64_t both_line(const uint8_t *const parts[KEY_PARTS], const size_t lengths[K
                    struct shelf *shelf)
 {
     static const char *const names[KEY_PARTS] = {
-        "school", "school qualifier", "supplier", "supplier qualifier", "reference",
-        "article", "article qualifier"
+        "school", "school qualifier", "supplier", "supplier qualifier", "reference"
     };
     struct lending lending = lend(LINE);
     for (size_t i = 0; i < KEY_PARTS; i++)

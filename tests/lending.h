@@ -7,13 +7,13 @@
 
 enum call { CHECK, WRITE, BOOK, LINE, SAVE, LOAD, ACCOUNT, CALL_COUNT };
 
-enum { ANSWER_COUNT = 26, KEY_PARTS = 7, MOST_TABLE = 66000 };
+enum { ANSWER_COUNT = 26, KEY_PARTS = 5, MOST_TABLE = 66000 };
 
 /* The calls so far, how often each answer of each call was seen, where we are (the
-   round's seed and the number of the call in it), and the place and the first value that
-   the last call gave. */
+   round's seed and the number of the call in it), and what the last call gave: the place,
+   the first value and, where it was a booking, whether the articles agreed. */
 struct tally {
-    uint64_t calls, seen[CALL_COUNT][ANSWER_COUNT], seed, call, place, value;
+    uint64_t calls, seen[CALL_COUNT][ANSWER_COUNT], seed, call, place, value, agreed;
 };
 
 extern struct tally tally;

@@ -18,15 +18,13 @@ wq_booked ref_book(const uint8_t *record, size_t record_length,
                    uint8_t *lines, size_t lines_length,
                    uint8_t *slips, size_t slips_length, size_t *used);
 
-wq_booked ref_line(const uint8_t *school, size_t school_length,
-                   const uint8_t *school_qualifier, size_t school_qualifier_length,
-                   const uint8_t *supplier, size_t supplier_length,
-                   const uint8_t *supplier_qualifier, size_t supplier_qualifier_length,
-                   const uint8_t *reference, size_t reference_length,
-                   const uint8_t *article, size_t article_length,
-                   const uint8_t *article_qualifier, size_t article_qualifier_length,
-                   const uint8_t *lines, size_t lines_length,
-                   const uint8_t *slips, size_t slips_length, const size_t *used);
+wq_told ref_line(const uint8_t *school, size_t school_length,
+                 const uint8_t *school_qualifier, size_t school_qualifier_length,
+                 const uint8_t *supplier, size_t supplier_length,
+                 const uint8_t *supplier_qualifier, size_t supplier_qualifier_length,
+                 const uint8_t *reference, size_t reference_length,
+                 const uint8_t *lines, size_t lines_length,
+                 const uint8_t *slips, size_t slips_length, const size_t *used);
 
 wq_saved ref_save(const uint8_t *lines, size_t lines_length,
                   const uint8_t *slips, size_t slips_length,

@@ -76,16 +76,23 @@ static size_t find_slip(const struct book *book, const uint8_t *key)
 
 static wq_booked refused(enum answer answer, size_t place)
 {
-    wq_booked booked = {0, 0, 0, 0, 0, 0, 0};
+    wq_booked booked = {0, 0, 0, 0, 0, 0, 0, 0};
     booked.answer = answer;
     booked.place = place;
     return booked;
 }
 
-/* Filled is the smaller of Q and A; the rest of Q is let go after an N, otherwise open. */
-static wq_booked figures_of(const uint8_t *line)
+static wq_told not_told(enum answer answer)
 {
-    wq_booked figures = refused(DONE, 0);
+    wq_told told = {0, 0, 0, 0, 0, 0, 0};
+    told.answer = answer;
+    return told;
+}
+
+/* Filled is the smaller of Q and A; the rest of Q is let go after an N, otherwise open. */
+static wq_told figures_of(const uint8_t *line)
+{
+    wq_told figures = not_told(DONE);
     size_t ordered = get_le16(line + LINE_ORDERED_PLACE);
     size_t arrived = get_le32(line + LINE_ARRIVED_PLACE);
     size_t filled = arrived < ordered ? arrived : ordered;
@@ -99,16 +106,32 @@ static wq_booked figures_of(const uint8_t *line)
     return figures;
 }
 
-/* In B101 the school is the sender; in L101 and M101 the recipient. */
+/* What a booking tells: the figures of its line, and whether the record's title, article and
+   qualifier, is the one that is kept in the line. */
+static wq_booked booked_on(const uint8_t *line, const uint8_t *title)
+{
+    wq_told figures = figures_of(line);
+    wq_booked booked = refused(DONE, 0);
+    booked.ordered = figures.ordered;
+    booked.filled = figures.filled;
+    booked.still_open = figures.still_open;
+    booked.let_go = figures.let_go;
+    booked.extra = figures.extra;
+    booked.agreed = memcmp(line + LINE_TITLE_PLACE, title, TITLE_WIDTH) == 0;
+    return booked;
+}
+
+/* "The line's key is school, supplier and reference." In B101 the school is the sender; in
+   L101 and M101 the recipient. */
 static void line_key_of(const uint8_t *record, enum record_kind kind, uint8_t *key)
 {
     size_t school = kind == ORDER ? SENDER_PLACE : RECIPIENT_PLACE;
     size_t supplier = kind == ORDER ? RECIPIENT_PLACE : SENDER_PLACE;
-    size_t wanted = kind == ORDER ? ORDER_REFERENCE_PLACE
-                  : kind == DELIVERY ? DELIVERY_REFERENCE_PLACE : REPORT_REFERENCE_PLACE;
+    size_t reference = kind == ORDER ? ORDER_REFERENCE_PLACE
+                     : kind == DELIVERY ? DELIVERY_REFERENCE_PLACE : REPORT_REFERENCE_PLACE;
     memcpy(key, record + school, PARTY_WIDTH);
     memcpy(key + PARTY_WIDTH, record + supplier, PARTY_WIDTH);
-    memcpy(key + 2 * PARTY_WIDTH, record + wanted, WANTED_WIDTH);
+    memcpy(key + 2 * PARTY_WIDTH, record + reference, REFERENCE_WIDTH);
 }
 
 /* A closing record has no date, an advance notice no slip number: 13 for both. */
@@ -134,10 +157,12 @@ static size_t open_copies(const struct book *book, const uint8_t *school)
     return open;
 }
 
-/* An accepted order adds a line; 14, 25, 15. The key begins with the school. */
-static wq_booked book_order(const struct book *book, const uint8_t *key, size_t copies,
-                            size_t ceiling, uint8_t *lines, size_t *used)
+/* An accepted order adds a line, which keeps its title; 14, 25, 15. The key begins with the
+   school. */
+static wq_booked book_order(const struct book *book, const uint8_t *record, const uint8_t *key,
+                            size_t copies, size_t ceiling, uint8_t *lines, size_t *used)
 {
+    const uint8_t *title = record + ORDER_TITLE_PLACE;
     if (find_line(book, key) < book->used_lines)
         return refused(LINE_EXISTS, 0);
     if (open_copies(book, key) + copies > ceiling)
@@ -146,14 +171,16 @@ static wq_booked book_order(const struct book *book, const uint8_t *key, size_t 
         return refused(LINES_FULL, 0);
     uint8_t *line = lines + book->used_lines * LINE_WIDTH;
     memcpy(line, key, LINE_KEY_WIDTH);
+    memcpy(line + LINE_TITLE_PLACE, title, TITLE_WIDTH);
     put_le16(line + LINE_ORDERED_PLACE, copies);
     line[LINE_MARK_PLACE] = MARK_NONE;
     put_le32(line + LINE_ARRIVED_PLACE, 0);
     used[0]++;
-    return figures_of(line);
+    return booked_on(line, title);
 }
 
-/* 17 where the first slip with the key has the same line key and quantity, else 18. */
+/* 17 where the first slip with the key has the same line key and quantity, else 18. No title
+   is looked at. */
 static enum answer slip_again(const struct book *book, size_t index,
                               const uint8_t *line_key, size_t copies)
 {
@@ -189,7 +216,7 @@ static wq_booked book_delivery(const struct book *book, const uint8_t *record,
     put_le16(slip + SLIP_COPIES_PLACE, copies);
     put_le32(line + LINE_ARRIVED_PLACE, arrived);
     used[1]++;
-    return figures_of(line);
+    return booked_on(line, record + DELIVERY_TITLE_PLACE);
 }
 
 /* An accepted report sets the mark (field 11 only); 16. */
@@ -201,7 +228,7 @@ static wq_booked book_report(const struct book *book, const uint8_t *record,
         return refused(NO_SUCH_LINE, 0);
     uint8_t *line = lines + index * LINE_WIDTH;
     line[LINE_MARK_PLACE] = record[REPORT_HOLD_PLACE] == 'N' ? MARK_LET_GO : MARK_HELD;
-    return figures_of(line);
+    return booked_on(line, record + REPORT_TITLE_PLACE);
 }
 
 /* Book: 20, 1 to 10, 13, 11, 12, 24, then the answers of the kind. */
@@ -232,8 +259,8 @@ wq_booked ref_book(const uint8_t *record, size_t record_length,
     if (school == NULL)
         return refused(NOT_ON_ROSTER, 0);
     if (kind == ORDER)
-        return book_order(&book, key, copies_of(record, kind), ref_ceiling_of(school), lines,
-                          used);
+        return book_order(&book, record, key, copies_of(record, kind), ref_ceiling_of(school),
+                          lines, used);
     if (kind == REPORT)
         return book_report(&book, record, key, lines);
     return book_delivery(&book, record, key, copies_of(record, kind), lines, slips, used);
@@ -242,7 +269,7 @@ wq_booked ref_book(const uint8_t *record, size_t record_length,
 /* A key field as the caller hands it over, and the width it has to have. */
 struct key_part { const uint8_t *bytes; size_t length, width; };
 
-enum { KEY_PARTS = 7 };
+enum { KEY_PARTS = 5 };
 
 /* Joins the key's fields; 0 where one has the wrong length. */
 static int join_key(const struct key_part *parts, uint8_t *key)
@@ -258,32 +285,27 @@ static int join_key(const struct key_part *parts, uint8_t *key)
 
 /* A call by key gives a line's figures, or 20, then 16; a key field of wrong length
    matches no line. */
-wq_booked ref_line(const uint8_t *school, size_t school_length,
-                   const uint8_t *school_qualifier, size_t school_qualifier_length,
-                   const uint8_t *supplier, size_t supplier_length,
-                   const uint8_t *supplier_qualifier, size_t supplier_qualifier_length,
-                   const uint8_t *reference, size_t reference_length,
-                   const uint8_t *article, size_t article_length,
-                   const uint8_t *article_qualifier, size_t article_qualifier_length,
-                   const uint8_t *lines, size_t lines_length,
-                   const uint8_t *slips, size_t slips_length, const size_t *used)
+wq_told ref_line(const uint8_t *school, size_t school_length,
+                 const uint8_t *school_qualifier, size_t school_qualifier_length,
+                 const uint8_t *supplier, size_t supplier_length,
+                 const uint8_t *supplier_qualifier, size_t supplier_qualifier_length,
+                 const uint8_t *reference, size_t reference_length,
+                 const uint8_t *lines, size_t lines_length,
+                 const uint8_t *slips, size_t slips_length, const size_t *used)
 {
     const struct key_part parts[KEY_PARTS] = {
         {school, school_length, ADDRESS_WIDTH},
         {school_qualifier, school_qualifier_length, QUALIFIER_WIDTH},
         {supplier, supplier_length, ADDRESS_WIDTH},
         {supplier_qualifier, supplier_qualifier_length, QUALIFIER_WIDTH},
-        {reference, reference_length, REFERENCE_WIDTH},
-        {article, article_length, ARTICLE_WIDTH},
-        {article_qualifier, article_qualifier_length, QUALIFIER_WIDTH}
+        {reference, reference_length, REFERENCE_WIDTH}
     };
     struct book book;
     uint8_t key[LINE_KEY_WIDTH];
     if (!ref_open_book(lines, lines_length, slips, slips_length, used, &book))
-        return refused(BOOK_UNSOUND, 0);
+        return not_told(BOOK_UNSOUND);
     if (!join_key(parts, key))
-        return refused(NO_SUCH_LINE, 0);
+        return not_told(NO_SUCH_LINE);
     size_t index = find_line(&book, key);
-    return index < book.used_lines ? figures_of(line_at(&book, index))
-                                   : refused(NO_SUCH_LINE, 0);
+    return index < book.used_lines ? figures_of(line_at(&book, index)) : not_told(NO_SUCH_LINE);
 }

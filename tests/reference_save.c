@@ -72,7 +72,8 @@ static int find_entries(const uint8_t *saved, size_t length, struct saved_book *
         && get_le16(saved + place + 3) == save->slips;
 }
 
-/* Key fields obey the field rules of goods records, the reference not blank. */
+/* The fields of a key and the article with its qualifier obey the field rules of goods
+   records, the reference not blank. */
 static int is_valid_line(const uint8_t *body)
 {
     const uint8_t *school = body, *supplier = body + PARTY_WIDTH;

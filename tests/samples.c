@@ -70,7 +70,7 @@ static const struct title_sample title_samples[] = {
     {"\x84" "Faust\x93 \x97 \x81 \x8d", 4, 123}
 };
 
-/* The desk program's sample: record, then answer and the five figures. */
+/* The desk program's sample: record, then answer and the five figures. All name one article. */
 static const struct { const char *record; uint64_t answer, figures[5]; } desk_sample[] = {
     {X END, 0, {10, 0, 10, 0, 0}},
     {Y(SLIP, "0001", "0004"), 0, {10, 4, 6, 0, 0}},
@@ -175,7 +175,7 @@ static void run_desk_sample(const struct side *side)
         if (booked.answer != desk_sample[i].answer || booked.place != 0
             || booked.ordered != wanted[0] || booked.filled != wanted[1]
             || booked.still_open != wanted[2] || booked.let_go != wanted[3]
-            || booked.extra != wanted[4])
+            || booked.extra != wanted[4] || booked.agreed != (booked.answer == 0))
             differs(side, record, booked.answer, booked.place);
     }
     insist(used[0] == 1 && used[1] == 3, "the desk sample leaves one line and three slips");
@@ -209,7 +209,7 @@ static void run_roster_samples(const struct side *side)
                                       lines, sizeof lines, slips, sizeof slips, used);
         tally.calls++;
         if (booked.answer != answer || booked.place != 0 || used[0] != (answer == 0)
-            || booked.still_open != (answer == 0 ? 10 : 0))
+            || booked.still_open != (answer == 0 ? 10 : 0) || booked.agreed != (answer == 0))
             differs(side, record, booked.answer, booked.place);
         ask_account(side, schools, count, record, answer);
     }
