@@ -74,7 +74,8 @@ static void unique_slip(struct dice *dice, uint8_t *slip, size_t number, size_t 
     put_little(slip + IN_COPIES, 2, between(dice, 1, 9999));
 }
 
-/* A book without repeated keys, each A the sum of its slips, as bookings make it. */
+/* A book without repeated keys, each A the sum of its slips, as bookings make it. Each line
+   has a title of its own. */
 void stock_unique(struct dice *dice, struct shelf *shelf, size_t lines, size_t slips)
 {
     uint32_t sums[SHELF_LINES] = {0};
@@ -87,6 +88,7 @@ void stock_unique(struct dice *dice, struct shelf *shelf, size_t lines, size_t s
     for (size_t i = 0; i < lines; i++) {
         uint8_t *line = shelf->lines + i * IN_LINE;
         unique_line_key(line, i);
+        make_title(dice, line + IN_KEY);
         put_little(line + 49, 2, between(dice, 1, 9999));
         line[51] = (uint8_t)below(dice, 3);
         put_little(line + 52, 4, sums[i]);
@@ -131,6 +133,25 @@ size_t open_on(const struct shelf *shelf, const uint8_t *account)
             open += ordered - arrived;
     }
     return open;
+}
+
+/* Whether the record names the title of the first line with its key, told here a second time
+   on purpose; where there is none, no. */
+int names_title(const uint8_t *record, const struct shelf *shelf)
+{
+    int order = record[0] == 'B';
+    const uint8_t *school = record + (order ? IN_SENDER : IN_RECIPIENT);
+    const uint8_t *supplier = record + (order ? IN_RECIPIENT : IN_SENDER);
+    const uint8_t *reference = record + (order ? IN_ORDER_REFERENCE
+        : record[0] == 'L' ? IN_DELIVERY_REFERENCE : IN_REPORT_REFERENCE);
+    for (size_t i = 0; i < shelf->used[0]; i++) {
+        const uint8_t *line = shelf->lines + i * IN_LINE;
+        if (memcmp(line, school, IN_PARTY) == 0
+            && memcmp(line + IN_PARTY, supplier, IN_PARTY) == 0
+            && memcmp(line + IN_REFERENCE, reference, IN_NAME) == 0)
+            return memcmp(line + IN_KEY, reference + IN_NAME, IN_TITLE) == 0;
+    }
+    return 0;
 }
 
 /* A valid save; copies 0 means any number on each slip. Slips go to the first lines. */

@@ -136,43 +136,6 @@ void make_day(struct dice *dice, uint8_t *date)
     put_digits(date + 6, 2, chance(dice, 3) ? last : between(dice, 1, last));
 }
 
-static void make_ean(struct dice *dice, uint8_t *article)
-{
-    size_t total = 0;
-    put_random_digits(dice, article, 12);
-    for (size_t i = 0; i < 12; i++)
-        total += (size_t)(article[i] - '0') * (i % 2 == 0 ? 1 : 3);
-    article[12] = (uint8_t)('0' + (10 - total % 10) % 10);
-}
-
-static void make_isbn(struct dice *dice, uint8_t *article)
-{
-    size_t total = 0, check;
-    put_random_digits(dice, article, 9);
-    for (size_t i = 0; i < 9; i++)
-        total += (size_t)(article[i] - '0') * (10 - i);
-    check = (11 - total % 11) % 11;
-    article[9] = (uint8_t)(check == 10 ? 'X' : '0' + (int)check);
-}
-
-/* An article of any of the five qualifiers, and the qualifier behind it. */
-void make_title(struct dice *dice, uint8_t *to)
-{
-    static const char *const qualifiers[] = {"EN", "IB", "KN", "UM", "RK"};
-    size_t which = below(dice, 5);
-    memset(to, ' ', 13);
-    memcpy(to + 13, qualifiers[which], 2);
-    switch (which) {
-    case 0: make_ean(dice, to); break;
-    case 1: make_isbn(dice, to); break;
-    case 2: put_random_digits(dice, to, between(dice, 7, 8)); break;
-    case 3: put_random_digits(dice, to, between(dice, 1, 13)); break;
-    default:
-        put_random_digits(dice, to, 3);
-        put_random_digits(dice, to + 8, 5);
-    }
-}
-
 void make_party(struct dice *dice, uint8_t *party)
 {
     static const char *const qualifiers[] = {"VD", "IB", "SA"};

@@ -1,4 +1,4 @@
-/* Generated inputs: records of all kinds, rosters, lent books and saved books. */
+/* Generated inputs: records of all kinds, titles, rosters, lent books and saved books. */
 #ifndef INPUTS_H
 #define INPUTS_H
 
@@ -20,6 +20,7 @@ enum {
     IN_KIND_BYTE = 1,
     IN_SAVED_LINES_COUNT = 4, IN_SAVED_SLIPS_COUNT = 2,
     IN_SENDER = 4, IN_RECIPIENT = 16, IN_REFERENCE = 24, IN_ORDER_COPIES = 61,
+    IN_ORDER_REFERENCE = 36, IN_DELIVERY_REFERENCE = 50, IN_REPORT_REFERENCE = 38,
     IN_FULL_TABLE = 192, IN_LONGEST = 1024, IN_MOST_COPIES = 9999,
     IN_NO_MARK = 0, IN_HELD = 1, IN_LET_GO = 2,
     /* where the typographic marks of document 02 begin and end */
@@ -67,7 +68,6 @@ extern const size_t listed_count;
 /* Keys and titles come from a small pool (variety 1 to 4 of each field), or are all random
    (0). Whatever makes a line's key puts a title behind it. */
 void make_day(struct dice *dice, uint8_t *date);
-void make_title(struct dice *dice, uint8_t *title);
 void make_party(struct dice *dice, uint8_t *party);
 void make_line_key(struct dice *dice, size_t variety, uint8_t *key);
 void make_slip_part(struct dice *dice, size_t variety, uint8_t *date_number_position);
@@ -82,6 +82,17 @@ uint8_t odd_byte(struct dice *dice, uint8_t byte);
 void put_digits(uint8_t *to, size_t width, size_t number);
 void put_little(uint8_t *to, size_t width, uint64_t number);
 size_t get_little(const uint8_t *from, size_t width);
+
+/* Titles: one that is valid; another than this one; two that differ as told, in the qualifier
+   alone, or in the digit at this place alone. */
+enum change { SAME_TITLE, OTHER_NUMBER, OTHER_QUALIFIER, OTHER_BOTH, CHANGES };
+enum one_number { EN_AND_UM, KN_AND_UM_7, KN_AND_UM_8, ONE_NUMBERS };
+struct titles { uint8_t ours[IN_TITLE], other[IN_TITLE]; };
+void make_title(struct dice *dice, uint8_t *title);
+void make_other_title(struct dice *dice, const uint8_t *title, uint8_t *other);
+void make_titles(struct dice *dice, enum change change, struct titles *titles);
+void make_one_number(struct dice *dice, enum one_number sort, struct titles *titles);
+void make_near_titles(struct dice *dice, size_t place, struct titles *titles);
 
 /* Fixed parts. */
 void make_fixed(struct dice *dice, struct sheet *sheet, enum shape shape,
@@ -122,6 +133,7 @@ void add_line(struct shelf *shelf, const uint8_t *account, size_t ordered, size_
               uint8_t mark);
 void add_open(struct dice *dice, struct shelf *shelf, const uint8_t *account, size_t open);
 size_t open_on(const struct shelf *shelf, const uint8_t *account);
+int names_title(const uint8_t *record, const struct shelf *shelf);
 void unique_line_key(uint8_t *key, size_t number);
 void unique_slip_key(uint8_t *key, size_t number);
 size_t make_save(struct dice *dice, uint8_t *saved, size_t lines, size_t slips,

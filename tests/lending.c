@@ -287,6 +287,15 @@ static int is_unchanged(const struct lending *lending, size_t side)
     return are_unchanged(lending, side, lending->count);
 }
 
+/* Whether a refusal gives nothing besides its answer and place. */
+static int gives_nothing(const struct outcome *outcome)
+{
+    for (size_t i = 2; i < MOST_VALUES; i++)
+        if (outcome->values[i] != 0)
+            return 0;
+    return 1;
+}
+
 static int is_same(const struct lending *lending)
 {
     for (size_t i = 0; i < lending->count; i++)
@@ -316,6 +325,8 @@ static uint64_t run_both(struct lending *lending)
         fail(lending, outcomes, "written outside the lent bytes");
     if (answer != 0 && !is_unchanged(lending, 0))
         fail(lending, outcomes, "a refusal changed lent bytes");
+    if (answer != 0 && !gives_nothing(&outcomes[0]))
+        fail(lending, outcomes, "a refusal gave values");
     if (answer >= ANSWER_COUNT)
         fail(lending, outcomes, "no such answer");
     tally.seen[lending->call][answer]++;
@@ -376,6 +387,15 @@ uint64_t both_write(const struct sheet *sheet, size_t fixed_length, size_t table
     return answer;
 }
 
+/* Whether the lines of the book have the keys, titles and orders that they had. */
+static int are_lines_kept(const uint8_t *after, const struct shelf *shelf)
+{
+    for (size_t i = 0; i < shelf->used[0]; i++)
+        if (memcmp(after + i * IN_LINE, shelf->lines + i * IN_LINE, IN_MARK) != 0)
+            return 0;
+    return 1;
+}
+
 uint64_t both_book(const uint8_t *record, size_t length, const struct roster *roster,
                    struct shelf *shelf)
 {
@@ -386,8 +406,14 @@ uint64_t both_book(const uint8_t *record, size_t length, const struct roster *ro
     add_shelf(&lending, shelf);
     uint64_t answer = run_both(&lending);
     insist(are_unchanged(&lending, 0, ONLY_READ), "record and roster never change");
-    if (answer == 0)
-        take_back(&lending, ONLY_READ, shelf);
+    if (answer != 0)
+        return answer;
+    insist(are_lines_kept(copy_of(&lending, 0, ONLY_READ), shelf),
+           "no booking changes what a line's order gave it");
+    take_back(&lending, ONLY_READ, shelf);
+    insist(tally.agreed == (uint64_t)names_title(record, shelf),
+           "agreed tells whether the record names the line's article");
+    insist(record[0] != 'B' || tally.agreed == 1, "an order agrees with its own line");
     return answer;
 }
 
