@@ -1,5 +1,6 @@
-/* Document 01's samples with the values it states, document 02's clerk and his roster, and
-   titles with its typographic marks, held against both implementations. */
+/* Document 01's samples with the values it states, document 02's clerk and his roster, titles
+   with its typographic marks, and a supplier that answers with its own number, held against
+   both implementations. */
 #include "lending.h"
 #include "reference.h"
 
@@ -8,13 +9,19 @@
 #include <stdlib.h>
 #include <string.h>
 
-#define X "B10143210     VD24000     VD20240219A-17      9783442756841EN0010ST"
-#define Y_FIXED(slip, position, copies) \
-    "L10124000     VD43210     VD20240226" slip position "A-17      9783442756841EN" \
+#define X_OF(title) "B10143210     VD24000     VD20240219A-17      " title "0010ST"
+#define X X_OF(ISBN)
+#define Y_OF(title, slip, position, copies) \
+    "L10124000     VD43210     VD20240226" slip position "A-17      " title \
     copies "000000000129500LPEUR003000001"
+#define Y_FIXED(slip, position, copies) Y_OF(ISBN, slip, position, copies)
 #define Y(slip, position, copies) Y_FIXED(slip, position, copies) END
-#define Z(message) \
-    "M10124000     VD43210     VD70012345  A-17      9783442756841EN" message "        0000*9999"
+#define Z_OF(title, message) \
+    "M10124000     VD43210     VD70012345  A-17      " title message "        0000*9999"
+#define Z(message) Z_OF(ISBN, message)
+#define ISBN "9783442756841EN"
+#define OWN "1234567      UM"
+#define AS_OWN "9783442756841UM"
 #define END "*9999"
 #define SLIP "70012345  "
 
@@ -27,13 +34,16 @@ struct side {
                         const uint8_t *, size_t, uint8_t *, size_t);
     wq_booked (*book)(const uint8_t *, size_t, const uint8_t *, size_t, uint8_t *, size_t,
                       uint8_t *, size_t, size_t *);
+    wq_told (*line)(const uint8_t *, size_t, const uint8_t *, size_t, const uint8_t *, size_t,
+                    const uint8_t *, size_t, const uint8_t *, size_t, const uint8_t *, size_t,
+                    const uint8_t *, size_t, const size_t *);
     wq_account_told (*account)(const wq_school *, size_t, const uint8_t *, size_t,
                                const uint8_t *, size_t);
 };
 
 static const struct side sides[] = {
-    {"reference", ref_check, ref_write, ref_book, ref_account},
-    {"library", wq_check, wq_write, wq_book, wq_account}
+    {"reference", ref_check, ref_write, ref_book, ref_line, ref_account},
+    {"library", wq_check, wq_write, wq_book, wq_line, wq_account}
 };
 
 /* Reading: the record, its answer and place, and the number of fields. */
@@ -70,17 +80,35 @@ static const struct title_sample title_samples[] = {
     {"\x84" "Faust\x93 \x97 \x81 \x8d", 4, 123}
 };
 
-/* The desk program's sample: record, then answer and the five figures. All name one article. */
-static const struct { const char *record; uint64_t answer, figures[5]; } desk_sample[] = {
-    {X END, 0, {10, 0, 10, 0, 0}},
-    {Y(SLIP, "0001", "0004"), 0, {10, 4, 6, 0, 0}},
-    {Y(SLIP, "0001", "0004"), 17, {0, 0, 0, 0, 0}},
-    {Z("010N"), 0, {10, 4, 0, 6, 0}},
-    {Y(SLIP, "0002", "0003"), 0, {10, 7, 0, 3, 0}},
-    {Z("015J"), 0, {10, 7, 3, 0, 0}},
-    {Y(SLIP, "0003", "0005"), 0, {10, 10, 0, 0, 2}},
-    {Y(SLIP, "0001", "0005"), 18, {0, 0, 0, 0, 0}},
-    {Y("          ", "0001", "0004"), 13, {0, 0, 0, 0, 0}}
+/* The desk program's sample: record, then answer, the five figures and whether the articles
+   agreed, which all of its records do. It leaves one line and three slips. */
+struct booking_sample { const char *record; uint64_t answer, figures[5], agreed; };
+static const struct booking_sample desk_sample[] = {
+    {X END, 0, {10, 0, 10, 0, 0}, 1},
+    {Y(SLIP, "0001", "0004"), 0, {10, 4, 6, 0, 0}, 1},
+    {Y(SLIP, "0001", "0004"), 17, {0, 0, 0, 0, 0}, 0},
+    {Z("010N"), 0, {10, 4, 0, 6, 0}, 1},
+    {Y(SLIP, "0002", "0003"), 0, {10, 7, 0, 3, 0}, 1},
+    {Z("015J"), 0, {10, 7, 3, 0, 0}, 1},
+    {Y(SLIP, "0003", "0005"), 0, {10, 10, 0, 0, 2}, 1},
+    {Y(SLIP, "0001", "0005"), 18, {0, 0, 0, 0, 0}, 0},
+    {Y("          ", "0001", "0004"), 13, {0, 0, 0, 0, 0}, 0}
+};
+
+/* Document 02's supplier, which answers an order by ISBN with its own number. It leaves the
+   same counts and figures. */
+static const struct booking_sample own_number_sample[] = {
+    {X END, 0, {10, 0, 10, 0, 0}, 1},
+    {Y_OF(OWN, SLIP, "0001", "0004") END, 0, {10, 4, 6, 0, 0}, 0},
+    {Y(SLIP, "0001", "0004"), 17, {0, 0, 0, 0, 0}, 0},
+    {Y_OF(OWN, SLIP, "0001", "0004") END, 17, {0, 0, 0, 0, 0}, 0},
+    {Y_OF(OWN, SLIP, "0001", "0005") END, 18, {0, 0, 0, 0, 0}, 0},
+    {Z_OF(OWN, "010N"), 0, {10, 4, 0, 6, 0}, 0},
+    {Y(SLIP, "0002", "0003"), 0, {10, 7, 0, 3, 0}, 1},
+    {Z("015J"), 0, {10, 7, 3, 0, 0}, 1},
+    {X_OF(OWN) END, 14, {0, 0, 0, 0, 0}, 0},
+    {X_OF(AS_OWN) END, 14, {0, 0, 0, 0, 0}, 0},
+    {Y_OF(AS_OWN, SLIP, "0003", "0005") END, 0, {10, 10, 0, 0, 2}, 0}
 };
 
 /* Document 02's clerk typed 43201 for 43210. An order of ten copies, the entries of the
@@ -159,26 +187,41 @@ static void run_title_sample(const struct side *side, const struct title_sample 
            "a title is told with its bytes and written back");
 }
 
-static void run_desk_sample(const struct side *side)
+/* The figures of the samples' line by its key. */
+static void ask_sample_line(const struct side *side, const uint8_t *lines, size_t lines_length,
+                            const uint8_t *slips, size_t slips_length, const size_t *used)
+{
+    const uint8_t *key = (const uint8_t *)OURS "24000     VDA-17      ";
+    wq_told told = side->line(key, 10, key + 10, 2, key + 12, 10, key + 22, 2, key + 24, 10,
+                              lines, lines_length, slips, slips_length, used);
+    tally.calls++;
+    insist(told.answer == 0 && told.place == 0 && told.ordered == 10 && told.filled == 10
+           && told.still_open == 0 && told.let_go == 0 && told.extra == 2,
+           "the line of the samples is filled, with two copies extra");
+}
+
+static void run_bookings(const struct side *side, const struct booking_sample *samples,
+                         size_t count)
 {
     const struct entry highest = {OURS, WQ_HIGHEST_CEILING};
     const wq_school ours = school_of(&highest);
     static uint8_t lines[DESK_LINES * IN_LINE], slips[DESK_SLIPS * IN_SLIP];
     size_t used[2] = {0, 0};
-    for (size_t i = 0; i < sizeof desk_sample / sizeof desk_sample[0]; i++) {
-        const char *record = desk_sample[i].record;
-        const uint64_t *wanted = desk_sample[i].figures;
+    for (size_t i = 0; i < count; i++) {
+        const char *record = samples[i].record;
+        const uint64_t *wanted = samples[i].figures;
         wq_booked booked = side->book((const uint8_t *)record, strlen(record),
                                       (const uint8_t *)&ours, sizeof ours, lines,
                                       sizeof lines, slips, sizeof slips, used);
         tally.calls++;
-        if (booked.answer != desk_sample[i].answer || booked.place != 0
+        if (booked.answer != samples[i].answer || booked.place != 0
             || booked.ordered != wanted[0] || booked.filled != wanted[1]
             || booked.still_open != wanted[2] || booked.let_go != wanted[3]
-            || booked.extra != wanted[4] || booked.agreed != (booked.answer == 0))
+            || booked.extra != wanted[4] || booked.agreed != samples[i].agreed)
             differs(side, record, booked.answer, booked.place);
     }
-    insist(used[0] == 1 && used[1] == 3, "the desk sample leaves one line and three slips");
+    insist(used[0] == 1 && used[1] == 3, "the samples leave one line and three slips");
+    ask_sample_line(side, lines, sizeof lines, slips, sizeof slips, used);
 }
 
 /* The call for the account of an order, on the roster that the order met. */
@@ -224,7 +267,9 @@ void run_samples(void)
         run_read_samples(&sides[i]);
         for (size_t j = 0; j < sizeof title_samples / sizeof title_samples[0]; j++)
             run_title_sample(&sides[i], &title_samples[j]);
-        run_desk_sample(&sides[i]);
+        run_bookings(&sides[i], desk_sample, sizeof desk_sample / sizeof desk_sample[0]);
+        run_bookings(&sides[i], own_number_sample,
+                     sizeof own_number_sample / sizeof own_number_sample[0]);
         run_roster_samples(&sides[i]);
     }
 }
