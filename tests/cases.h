@@ -12,6 +12,7 @@ void compare_rosters(struct dice *dice);
 void compare_ceilings(struct dice *dice);
 void compare_accounts(struct dice *dice);
 void compare_saves(struct dice *dice);
+void compare_articles(struct dice *dice);
 
 /* In few rounds: every byte, and few cases each of large books and far numbers. */
 void compare_marks(struct dice *dice);
@@ -56,6 +57,10 @@ void order_at_edge(struct dice *dice, struct shelf *shelf, const uint8_t *accoun
 /* compare_save.c: a save of any sound book, loaded again, gives it back where its keys
    allow. */
 void save_and_load(struct dice *dice, struct shelf *shelf, int by_bookings);
+
+/* compare_save.c: saves the book and loads it into rooms of the same size; gives the answer
+   of loading, and where that is 0 the same book. */
+uint64_t load_again(struct dice *dice, struct shelf *shelf, struct shelf *loaded);
 
 /* compare_save.c: whether both have the same counts and the same used entries. */
 int is_same_book(const struct shelf *shelf, const struct shelf *other);

@@ -66,6 +66,7 @@ static void run_round(uint64_t seed, uint64_t round)
     compare_ceilings(&dice);
     compare_accounts(&dice);
     compare_saves(&dice);
+    compare_articles(&dice);
     if (round % FAR_EVERY != 0)
         return;
     compare_marks(&dice);

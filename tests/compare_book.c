@@ -72,6 +72,8 @@ static size_t make_booking(struct dice *dice, const struct shelf *shelf, size_t 
         make_line_key(dice, variety, key);
     else
         pick_key(dice, shelf, variety, key);
+    if (chance(dice, 4))
+        make_title(dice, key + IN_KEY);
     if (chance(dice, 15))
         memset(key + 24, ' ', 10);
     make_fixed(dice, &sheet, shape, key, copies);
@@ -175,12 +177,15 @@ static void book_at_limit(struct dice *dice)
         }
 }
 
-/* A stored key that differs from the record's in one byte, whichever, is another key. */
+/* A stored key that differs from the record's in one byte, whichever, is another key, though
+   the line has the record's article. */
 static void book_near_keys(struct dice *dice)
 {
     static struct shelf sound, shelf;
+    uint8_t new_slip[IN_SLIP_KEY];
     make_shelf(dice, &sound, 3, 3);
     stock_unique(dice, &sound, 1, 1);
+    unique_slip_key(new_slip, 1);
     size_t copies = get_little(sound.slips + IN_COPIES, 2);
     for (size_t i = 0; i < IN_KEY + IN_SLIP_KEY; i++) {
         int of_line = i < IN_KEY;
@@ -189,6 +194,10 @@ static void book_near_keys(struct dice *dice)
             ^= (uint8_t)(1u << below(dice, 8));
         insist(book_one(dice, &shelf, GOODS_SHAPE, sound.lines, copies, sound.slips)
                == (of_line ? 18u : 0u), "every byte of a key counts for a delivery");
+        insist(book_one(dice, &shelf, GOODS_SHAPE, sound.lines, copies, new_slip)
+               == (of_line ? 16u : 0u), "every byte of a key counts for a new slip");
+        insist(ask_line(sound.lines, &shelf) == (of_line ? 16u : 0u),
+               "every byte of a key counts for the call by key");
         insist(book_one(dice, &shelf, REPORT_SHAPE, sound.lines, 0, NULL)
                == (of_line ? 16u : 0u), "every byte of a key counts for a report");
         insist(book_one(dice, &shelf, ORDER_SHAPE, sound.lines, 1, NULL)

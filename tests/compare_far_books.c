@@ -58,8 +58,16 @@ static void find_far_line(struct dice *dice, struct shelf *shelf, size_t index)
     expect(ORDER_AGAIN_64_TO_489, far, book_one(dice, shelf, ORDER_SHAPE, key, 7, NULL), 14);
     expect(DELIVERY_FOR_64_TO_489, far, deliver_new(dice, shelf, key, 3), 0);
     came_up(SLIP_AS_256_TO_1009, is_within(slips, 256, 1009));
+    expect(AGREES_64_TO_489, far, tally.agreed, 1);
     expect(REPORT_FOR_64_TO_489, far, book_one(dice, shelf, REPORT_SHAPE, key, 0, NULL), 0);
+    expect(AGREES_64_TO_489, far, tally.agreed, 1);
     ask_line(key, shelf);
+    make_other_title(dice, shelf->lines + index * IN_LINE + IN_KEY, key + IN_KEY);
+    expect(ORDER_AGAIN_64_TO_489, far, book_one(dice, shelf, ORDER_SHAPE, key, 7, NULL), 14);
+    expect(DELIVERY_FOR_64_TO_489, far, deliver_new(dice, shelf, key, 3), 0);
+    expect(AGREES_NOT_64_TO_489, far, tally.agreed, 0);
+    expect(REPORT_FOR_64_TO_489, far, book_one(dice, shelf, REPORT_SHAPE, key, 0, NULL), 0);
+    expect(AGREES_NOT_64_TO_489, far, tally.agreed, 0);
 }
 
 /* 18 by the copies of a stored slip, which are the record's in their low byte or modulo
@@ -91,6 +99,9 @@ static void repeat_slip(struct dice *dice, struct shelf *shelf, size_t index)
     expect(SLIP_AGAIN_FROM_64, index >= 64,
            book_one(dice, shelf, GOODS_SHAPE, key, copies, slip), 17);
     came_up(SLIP_AGAIN_ON_LINE_FROM_256, line >= 256);
+    make_title(dice, key + IN_KEY);
+    expect(SLIP_AGAIN_FROM_64, index >= 64,
+           book_one(dice, shelf, GOODS_SHAPE, key, copies, slip), 17);
     repeat_with_copies(dice, shelf, index, key);
     came_up(SLIP_DIFFERS_FROM_64, index >= 64);
     line = line >= LOW_BYTE ? line - LOW_BYTE : line + LOW_BYTE;

@@ -87,6 +87,36 @@ static void load_far_faults(struct dice *dice)
     insist(both_load(saved, length, largest_shelf(dice)) == 23, "without its faults it is valid");
 }
 
+/* The key of a line stands again at another, under titles that differ as told. */
+static void load_line_again(struct dice *dice, size_t length, size_t first, size_t again,
+                            enum change change)
+{
+    struct titles titles;
+    uint8_t right[IN_SAVED_LINE];
+    make_titles(dice, change, &titles);
+    memcpy(right, saved_line(again), IN_SAVED_LINE);
+    memcpy(saved_line(first) + 1 + IN_KEY, titles.ours, IN_TITLE);
+    memcpy(saved_line(again) + 1 + IN_KEY, titles.other, IN_TITLE);
+    memcpy(saved_line(again) + 1, saved_line(first) + 1, IN_KEY);
+    enum class same = again > 600 ? SAVED_600_OF_SAME : SAVED_256_OF_SAME;
+    expect((enum class)(same + change), again >= 256,
+           both_load(saved, length, largest_shelf(dice)), 22);
+    memcpy(saved_line(again), right, IN_SAVED_LINE);
+}
+
+/* The same behind line 256 and behind line 600, the first of the two near or far. */
+static void load_lines_again(struct dice *dice)
+{
+    size_t lines = between(dice, 610, 700), length = make_save(dice, saved, lines, 20, 0);
+    for (size_t i = 0; i < 3 * CHANGES; i++) {
+        enum change change = (enum change)(i % CHANGES);
+        size_t middle = between(dice, 257, 512), again = between(dice, 605, lines - 1);
+        load_line_again(dice, length, i % 3 ? below(dice, middle) : middle - 1, middle, change);
+        load_line_again(dice, length, i % 3 ? below(dice, again) : again - 1, again, change);
+    }
+    insist(both_load(saved, length, largest_shelf(dice)) == 23, "without its repeats it is valid");
+}
+
 /* A key that stands again far behind, the first of the two near or far. */
 static void load_far_repeats(struct dice *dice)
 {
@@ -271,6 +301,7 @@ void compare_far_saves(struct dice *dice)
 {
     load_far_faults(dice);
     load_far_repeats(dice);
+    load_lines_again(dice);
     load_sums(dice);
     load_two_sums(dice);
     load_mixed_sums(dice);

@@ -192,19 +192,6 @@ static void break_blanks(struct dice *dice, uint8_t byte)
     }
 }
 
-/* Saves the book and loads it into rooms of the same size; gives the answer of loading. */
-static uint64_t load_again(struct dice *dice, struct shelf *shelf, struct shelf *loaded)
-{
-    uint8_t saved[IN_LONGEST];
-    size_t length = shelf->used[0] * IN_SAVED_LINE + shelf->used[1] * IN_SAVED_SLIP
-                  + IN_SAVED_END;
-    insist(both_save(shelf, saved, length) == 0, "a book is saved whatever its keys hold");
-    make_shelf(dice, loaded, shelf->lines_length / IN_LINE, shelf->slips_length / IN_SLIP);
-    uint64_t answer = both_load(saved, length, loaded);
-    insist(answer != 0 || is_same_book(shelf, loaded), "load of a save gives the same book");
-    return answer;
-}
-
 /* The byte somewhere in the name of a stored line or slip. The line is found whatever it is;
    the save is loaded, or 22. A blank in front is 22 too. */
 static void put_in_book(struct dice *dice, int in_line, uint8_t byte)

@@ -58,13 +58,17 @@ static void make_full_book(struct dice *dice, struct shelf *shelf, const uint8_t
     shelf->used[1] = 1;
 }
 
-/* Books a probe's record. Both classes count: that of the roster and, where the school is
-   not on it, that of the probe. */
+/* Books a probe's record, which names the article of the book's line or, as often, another:
+   its answer is the same. Both classes count: that of the roster and, where the school is not
+   on it, that of the probe. */
 static void try_probe(struct dice *dice, const struct probe *probe, const struct roster *roster,
                       struct shelf *shelf, enum meeting meeting, enum class class)
 {
     uint8_t key[IN_TITLED], slip[IN_SLIP_KEY];
     memcpy(key, shelf->lines, IN_TITLED);
+    int names_other = chance(dice, 2);
+    if (names_other)
+        make_other_title(dice, shelf->lines + IN_KEY, key + IN_KEY);
     if (probe->line == OTHER)
         key[IN_REFERENCE] ^= 1;
     if (probe->line == BLANK)
@@ -76,6 +80,7 @@ static void try_probe(struct dice *dice, const struct probe *probe, const struct
                     : meeting == NOT_LISTED && !probe->before_24 ? 24 : probe->answer;
     expect(class, 1, book_before(dice, roster, shelf, booking), wanted);
     came_up(probe->class, meeting == NOT_LISTED);
+    came_up(names_other ? REFUSED_WITH_OTHER_ARTICLE : REFUSED_WITH_ARTICLE, wanted != 0);
 }
 
 static void try_all_probes(struct dice *dice, const struct roster *roster, struct shelf *shelf,

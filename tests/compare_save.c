@@ -29,6 +29,18 @@ void save_and_load(struct dice *dice, struct shelf *shelf, int by_bookings)
         insist(is_same_book(shelf, &other), "load of a save gives the same book");
 }
 
+uint64_t load_again(struct dice *dice, struct shelf *shelf, struct shelf *loaded)
+{
+    static uint8_t saved[SAVE_ROOM];
+    size_t length = shelf->used[0] * IN_SAVED_LINE + shelf->used[1] * IN_SAVED_SLIP
+                  + IN_SAVED_END;
+    insist(both_save(shelf, saved, length) == 0, "a book is saved whatever its lines hold");
+    make_shelf(dice, loaded, shelf->lines_length / IN_LINE, shelf->slips_length / IN_SLIP);
+    uint64_t answer = both_load(saved, length, loaded);
+    insist(answer != 0 || is_same_book(shelf, loaded), "load of a save gives the same book");
+    return answer;
+}
+
 /* Every output size up to a little over the save. */
 static void save_into_all(struct dice *dice)
 {
