@@ -227,6 +227,7 @@ static const char *const words[CLASS_COUNT] = {
     [ONE_NUMBER_EN_UM] = "13 digits as EN and as UM",
     [ONE_NUMBER_KN_UM_7] = "7 digits as KN and as UM",
     [ONE_NUMBER_KN_UM_8] = "8 digits as KN and as UM",
+    [ONE_BOOK_IB_EN] = "a book by its ISBN as IB and as EN",
     [LENT_ARTICLE_OFF] = "a stored line whose article is one byte off",
     [LENT_ARTICLE_QUALIFIER_OFF] = "a stored line whose article's qualifier is one byte off",
     [NAMED_ARTICLE_OFF] = "a record whose article is one digit off",

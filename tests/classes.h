@@ -66,8 +66,8 @@ enum class {
     BYTE_127_IS_22, BYTE_129_IS_22, BYTE_141_IS_22, BYTE_143_IS_22, BYTE_144_IS_22,
     BYTE_157_IS_22,
     /* articles: deliveries, reports and what comes again, each with the line's article, with
-       another number, with another qualifier and with both others, in this order; and numbers
-       that two qualifiers take */
+       another number, with another qualifier and with both others, in this order; and pairs of
+       articles that are one to a reader */
     DELIVERY_OF_SAME, DELIVERY_OF_OTHER_NUMBER, DELIVERY_OF_OTHER_QUALIFIER,
     DELIVERY_OF_BOTH_OTHER,
     REPORT_OF_SAME, REPORT_OF_OTHER_NUMBER, REPORT_OF_OTHER_QUALIFIER, REPORT_OF_BOTH_OTHER,
@@ -85,7 +85,7 @@ enum class {
     SAVED_256_OF_BOTH_OTHER,
     SAVED_600_OF_SAME, SAVED_600_OF_OTHER_NUMBER, SAVED_600_OF_OTHER_QUALIFIER,
     SAVED_600_OF_BOTH_OTHER,
-    ONE_NUMBER_EN_UM, ONE_NUMBER_KN_UM_7, ONE_NUMBER_KN_UM_8,
+    ONE_NUMBER_EN_UM, ONE_NUMBER_KN_UM_7, ONE_NUMBER_KN_UM_8, ONE_BOOK_IB_EN,
     ORDER_AGREES, ARTICLE_AGREES_AGAIN, AGREES_64_TO_489, AGREES_NOT_64_TO_489,
     LENT_ARTICLE_OFF, LENT_ARTICLE_QUALIFIER_OFF, NAMED_ARTICLE_OFF, LENT_ARTICLE_OF_ANY_BYTES,
     FIRST_OF_KEY_AGREES, LATER_OF_KEY_AGREES, SLIP_AGAIN_ON_LATER_OF_KEY,

@@ -353,10 +353,10 @@ void compare_articles(struct dice *dice)
         make_titles(dice, (enum change)(i % CHANGES), &titles);
         meet_titles(dice, &titles, (enum change)(i % CHANGES));
     }
-    for (size_t sort = 0; sort < ONE_NUMBERS; sort++) {
-        make_one_number(dice, (enum one_number)sort, &titles);
-        meet_titles(dice, &titles, OTHER_QUALIFIER);
-        came_up((enum class)(ONE_NUMBER_EN_UM + sort), 1);
+    for (size_t pair = 0; pair < PAIRS; pair++) {
+        make_pair(dice, (enum pair)pair, &titles);
+        meet_titles(dice, &titles, pair == IB_AND_EN ? OTHER_BOTH : OTHER_QUALIFIER);
+        came_up((enum class)(ONE_NUMBER_EN_UM + pair), 1);
     }
     name_beside_near(dice);
     name_near(dice);

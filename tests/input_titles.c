@@ -7,13 +7,19 @@ enum qualifier { EN, IB, KN, UM, RK, QUALIFIERS };
 
 static const char *const qualifiers[QUALIFIERS] = {"EN", "IB", "KN", "UM", "RK"};
 
-static void make_ean(struct dice *dice, uint8_t *article)
+/* The last of the 13 digits of an EN, behind the others. */
+static void put_check_digit(uint8_t *article)
 {
     size_t total = 0;
-    put_random_digits(dice, article, 12);
     for (size_t i = 0; i < 12; i++)
         total += (size_t)(article[i] - '0') * (i % 2 == 0 ? 1 : 3);
     article[12] = (uint8_t)('0' + (10 - total % 10) % 10);
+}
+
+static void make_ean(struct dice *dice, uint8_t *article)
+{
+    put_random_digits(dice, article, 12);
+    put_check_digit(article);
 }
 
 static void make_isbn(struct dice *dice, uint8_t *article)
@@ -61,19 +67,38 @@ void make_other_title(struct dice *dice, const uint8_t *title, uint8_t *other)
         make_title(dice, other);
 }
 
-/* 13 digits as EN and as UM, or 7 or 8 digits as KN and as UM, whichever of the two first. */
-void make_one_number(struct dice *dice, enum one_number sort, struct titles *titles)
+/* A number as KN and as UM. */
+static void make_short(struct dice *dice, size_t digits, uint8_t *first, uint8_t *second)
+{
+    memcpy(first, "             KN", IN_TITLE);
+    put_random_digits(dice, first, digits);
+    memcpy(second, first, IN_ARTICLE);
+    memcpy(second + IN_ARTICLE, qualifiers[UM], IN_QUALIFIER);
+}
+
+/* The ISBN of a book in both its lengths: 978 stands before the nine digits of the short one. */
+static void make_book(struct dice *dice, uint8_t *first, uint8_t *second)
+{
+    make_title_of(dice, IB, first);
+    memcpy(second, "978          EN", IN_TITLE);
+    memcpy(second + 3, first, 9);
+    put_check_digit(second);
+}
+
+void make_pair(struct dice *dice, enum pair pair, struct titles *titles)
 {
     int turned = chance(dice, 2);
     uint8_t *first = turned ? titles->other : titles->ours;
     uint8_t *second = turned ? titles->ours : titles->other;
-    make_title_of(dice, sort == EN_AND_UM ? EN : KN, first);
-    if (sort != EN_AND_UM)
-        first[7] = ' ';
-    if (sort == KN_AND_UM_8)
-        put_random_digits(dice, first + 7, 1);
-    memcpy(second, first, IN_ARTICLE);
-    memcpy(second + IN_ARTICLE, qualifiers[UM], IN_QUALIFIER);
+    switch (pair) {
+    case KN_AND_UM_7: make_short(dice, 7, first, second); break;
+    case KN_AND_UM_8: make_short(dice, 8, first, second); break;
+    case IB_AND_EN: make_book(dice, first, second); break;
+    default:
+        make_title_of(dice, EN, first);
+        memcpy(second, first, IN_ARTICLE);
+        memcpy(second + IN_ARTICLE, qualifiers[UM], IN_QUALIFIER);
+    }
 }
 
 void make_titles(struct dice *dice, enum change change, struct titles *titles)
@@ -83,7 +108,7 @@ void make_titles(struct dice *dice, enum change change, struct titles *titles)
     make_title_of(dice, ours, titles->ours);
     memcpy(titles->other, titles->ours, IN_TITLE);
     if (change == OTHER_QUALIFIER)
-        make_one_number(dice, (enum one_number)below(dice, ONE_NUMBERS), titles);
+        make_pair(dice, (enum pair)below(dice, IB_AND_EN), titles);
     while (change == OTHER_NUMBER && memcmp(titles->other, titles->ours, IN_TITLE) == 0)
         make_title_of(dice, ours, titles->other);
     while (change == OTHER_BOTH && memcmp(titles->other, titles->ours, IN_ARTICLE) == 0)

@@ -83,15 +83,16 @@ void put_digits(uint8_t *to, size_t width, size_t number);
 void put_little(uint8_t *to, size_t width, uint64_t number);
 size_t get_little(const uint8_t *from, size_t width);
 
-/* Titles: one that is valid; another than this one; two that differ as told, in the qualifier
-   alone, or in the digit at this place alone. */
+/* Titles: one that is valid; another than this one; two that differ as told; one number that
+   two qualifiers take, or one book by its two ISBNs; two that differ in the digit at this place
+   alone. */
 enum change { SAME_TITLE, OTHER_NUMBER, OTHER_QUALIFIER, OTHER_BOTH, CHANGES };
-enum one_number { EN_AND_UM, KN_AND_UM_7, KN_AND_UM_8, ONE_NUMBERS };
+enum pair { EN_AND_UM, KN_AND_UM_7, KN_AND_UM_8, IB_AND_EN, PAIRS };
 struct titles { uint8_t ours[IN_TITLE], other[IN_TITLE]; };
 void make_title(struct dice *dice, uint8_t *title);
 void make_other_title(struct dice *dice, const uint8_t *title, uint8_t *other);
 void make_titles(struct dice *dice, enum change change, struct titles *titles);
-void make_one_number(struct dice *dice, enum one_number sort, struct titles *titles);
+void make_pair(struct dice *dice, enum pair pair, struct titles *titles);
 void make_near_titles(struct dice *dice, size_t place, struct titles *titles);
 
 /* Fixed parts. */
