@@ -34,7 +34,7 @@ enum {
 };
 
 static const size_t sizes[] = {10, 100, 256, MOST_LINES};
-enum { SIZES = sizeof sizes / sizeof sizes[0], BOOK_ROWS = 7, KEY_ROWS = 5, ACCOUNT_ROWS = 2 };
+enum { SIZES = sizeof sizes / sizeof sizes[0], BOOK_ROWS = 8, KEY_ROWS = 5, ACCOUNT_ROWS = 2 };
 
 /* How a number becomes a name of ten bytes: a front that all names share, then its last
    digits in the signs given, then blanks. */
@@ -121,6 +121,9 @@ struct row {
     double nanoseconds[SIDES];
     size_t rounds;
 };
+
+/* The article of all orders with its qualifier, and the number that a supplier has for it. */
+static const char ordered_title[] = "9783442756841EN", own_title[] = "1234567      UM";
 
 static struct record records[MOST_RECORDS];
 static wq_school roster[MOST_SCHOOLS];
@@ -418,7 +421,7 @@ static void make_school(char *text, const struct book_kind *kind, size_t line)
     text[ADDRESS + QUALIFIER] = '\0';
 }
 
-/* One supplier, one article. */
+/* One supplier and one article, so that the reference alone tells a school's lines apart. */
 static void make_reference(char *name, const struct book_kind *kind, size_t line)
 {
     make_name(name, &kind->references, line % references);
@@ -429,19 +432,20 @@ static void order_text(char *text, const struct book_kind *kind, size_t line)
     char school[ADDRESS + QUALIFIER + 1], reference[NAME + 1];
     make_school(school, kind, line);
     make_reference(reference, kind, line);
-    snprintf(text, TEXT, "B101%s24000     VD20240219%s9783442756841EN0010ST*9999", school,
-             reference);
+    snprintf(text, TEXT, "B101%s24000     VD20240219%s%s0010ST*9999", school, reference,
+             ordered_title);
 }
 
-static void delivery_text(char *text, const struct book_kind *kind, size_t line, size_t slip)
+static void delivery_text(char *text, const struct book_kind *kind, size_t line, size_t slip,
+                          const char *title)
 {
     char school[ADDRESS + QUALIFIER + 1], reference[NAME + 1], slip_number[NAME + 1];
     make_school(school, kind, line);
     make_reference(reference, kind, line);
     make_name(slip_number, &kind->slip_numbers, slip / POSITIONS_ON_A_SLIP);
-    snprintf(text, TEXT, "L10124000     VD%s20240226%s%04zu%s9783442756841EN0004"
+    snprintf(text, TEXT, "L10124000     VD%s20240226%s%04zu%s%s0004"
              "000000000129500LPEUR003000001*9999", school, slip_number,
-             1 + slip % POSITIONS_ON_A_SLIP, reference);
+             1 + slip % POSITIONS_ON_A_SLIP, reference, title);
 }
 
 static void report_text(char *text, const struct book_kind *kind, size_t line)
@@ -449,8 +453,8 @@ static void report_text(char *text, const struct book_kind *kind, size_t line)
     char school[ADDRESS + QUALIFIER + 1], reference[NAME + 1];
     make_school(school, kind, line);
     make_reference(reference, kind, line);
-    snprintf(text, TEXT, "M10124000     VD%s70012345  %s9783442756841EN010N        0000*9999",
-             school, reference);
+    snprintf(text, TEXT, "M10124000     VD%s70012345  %s%s010N        0000*9999", school,
+             reference, ordered_title);
 }
 
 static wq_booked book_into(struct book *book, const struct side *side, const char *text)
@@ -475,7 +479,7 @@ static void stock(const struct book_kind *kind, size_t lines)
     }
     for (size_t slip = 0; slip + 1 < 2 * lines; slip++) {
         size_t line = slip / 2 < lines - 1 ? slip / 2 : lines - 2;
-        delivery_text(text, kind, line, slip);
+        delivery_text(text, kind, line, slip, ordered_title);
         insist(book_into(&kept, &sides[REFERENCE], text).answer == ANSWER_DONE, "no delivery");
     }
     insist(kept.used[0] == lines - 1 && kept.used[1] == 2 * lines - 1, "the book's counts");
@@ -501,8 +505,8 @@ static void agree_on_saves(void)
     }
 }
 
-/* Both sides give this answer and leave the same book behind. */
-static void expect(struct task *task, uint64_t answer)
+/* Both sides give this answer, tell this of the articles and leave the same book behind. */
+static void expect(struct task *task, uint64_t answer, uint64_t agreed)
 {
     static struct book after[SIDES];
     for (size_t side = 0; side < SIDES; side++) {
@@ -511,7 +515,8 @@ static void expect(struct task *task, uint64_t answer)
         insist(side == 0 || unlike(&got, &task->booked) == 0, "a record is booked differently");
         task->booked = got;
     }
-    insist(task->booked.answer == answer, "a booking has not the answer its row needs");
+    insist(task->booked.answer == answer && task->booked.agreed == agreed,
+           "a booking has not the answer its row needs");
     insist(memcmp(&after[LIBRARY], &after[REFERENCE], sizeof kept) == 0,
            "the sides leave different books");
 }
@@ -519,16 +524,24 @@ static void expect(struct task *task, uint64_t answer)
 static struct task delivery_task(const struct book_kind *kind)
 {
     struct task task = one_call;
-    delivery_text(task.text, kind, kept.used[0] - 1, kept.used[1]);
-    expect(&task, ANSWER_DONE);
+    delivery_text(task.text, kind, kept.used[0] - 1, kept.used[1], ordered_title);
+    expect(&task, ANSWER_DONE, 1);
+    return task;
+}
+
+static struct task own_number_task(const struct book_kind *kind)
+{
+    struct task task = one_call;
+    delivery_text(task.text, kind, kept.used[0] - 1, kept.used[1], own_title);
+    expect(&task, ANSWER_DONE, 0);
     return task;
 }
 
 static struct task repeated_task(const struct book_kind *kind)
 {
     struct task task = one_call;
-    delivery_text(task.text, kind, kept.used[0] - 1, kept.used[1] - 1);
-    expect(&task, ANSWER_REPEATED);
+    delivery_text(task.text, kind, kept.used[0] - 1, kept.used[1] - 1, ordered_title);
+    expect(&task, ANSWER_REPEATED, 0);
     return task;
 }
 
@@ -536,7 +549,7 @@ static struct task order_task(const struct book_kind *kind)
 {
     struct task task = one_call;
     order_text(task.text, kind, kept.used[0]);
-    expect(&task, ANSWER_DONE);
+    expect(&task, ANSWER_DONE, 1);
     return task;
 }
 
@@ -544,7 +557,7 @@ static struct task report_task(const struct book_kind *kind)
 {
     struct task task = one_call;
     report_text(task.text, kind, kept.used[0] - 1);
-    expect(&task, ANSWER_DONE);
+    expect(&task, ANSWER_DONE, 1);
     return task;
 }
 
@@ -592,7 +605,8 @@ static void add_records(const char *call, run *calls, size_t count, int alone)
     }
 }
 
-/* The rows of a book, each in books of all sizes; those that look for a key come first. */
+/* The rows of a book, each in books of all sizes; those that every kind of book has come
+   first. */
 static const struct {
     const char *call;
     run *calls;
@@ -603,6 +617,7 @@ static const struct {
     {"book, order accepted", run_book, order_task},
     {"book, report accepted", run_book, report_task},
     {"line", run_line, line_task},
+    {"book, delivery by the supplier's number", run_book, own_number_task},
     {"save", run_save, save_task},
     {"load", run_load, save_task}
 };
