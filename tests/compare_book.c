@@ -3,7 +3,7 @@
 
 #include <string.h>
 
-enum { HISTORY = 32, WIDEST = 10, LONGER = 256, LONGEST_FIELD = WIDEST + LONGER };
+enum { HISTORY = 32, LONGER = 256, LONGEST_FIELD = IN_NAME + LONGER };
 
 /* Widths of the five fields of a line's key. */
 static const size_t part_widths[KEY_PARTS] = {10, 2, 10, 2, 10};
@@ -333,6 +333,7 @@ static void ask_with_length(struct dice *dice, struct shelf *shelf, const uint8_
     shelf->used[1] -= 7;
     came_up(KEY_FIELD_OF_20, length == 20);
     came_up(KEY_FIELD_256_LONGER, length == part_widths[which] + LONGER);
+    came_up(KEY_FIELD_WITH_ARTICLE, which == KEY_PARTS - 1 && length == IN_NAME + IN_TITLE);
 }
 
 /* Lengths that move a byte from one field of the key to the next match no line. */
@@ -351,7 +352,7 @@ static void ask_shifted(struct shelf *shelf, const uint8_t *key)
 }
 
 /* The call by key with each field of wrong length, also where the joined bytes would
-   make the key, and with each byte changed. */
+   make the key, and with each byte changed. The line's article stands behind the key. */
 static void ask_wrong_keys(struct dice *dice)
 {
     static struct shelf shelf;
@@ -359,7 +360,7 @@ static void ask_wrong_keys(struct dice *dice)
     make_shelf(dice, &shelf, 6, 6);
     stock_shelf(dice, &shelf, 5, 3, 2);
     memset(key, ' ', sizeof key);
-    memcpy(key, shelf.lines + below(dice, 5) * IN_LINE, IN_KEY);
+    memcpy(key, shelf.lines + below(dice, 5) * IN_LINE, IN_TITLED);
     insist(ask_line(key, &shelf) == 0, "a line of the book is found");
     for (size_t i = 0; i < IN_KEY; i++) {
         key[i] ^= 1;
@@ -367,7 +368,7 @@ static void ask_wrong_keys(struct dice *dice)
         key[i] ^= 1;
     }
     for (size_t which = 0; which < KEY_PARTS; which++) {
-        for (size_t length = 0; length <= 2 * WIDEST; length++)
+        for (size_t length = 0; length <= IN_NAME + IN_TITLE; length++)
             ask_with_length(dice, &shelf, key, which, length);
         ask_with_length(dice, &shelf, key, which, part_widths[which] + LONGER);
     }

@@ -121,6 +121,27 @@ static size_t slip_of_far_line(const struct shelf *shelf)
     return 0;
 }
 
+/* A key that stands again far behind, there with the article that a record names: the first
+   line with the key is booked on, and does not agree. */
+static void find_first_of_key(struct dice *dice, struct shelf *shelf)
+{
+    uint8_t key[IN_TITLED], untouched[IN_LINE];
+    size_t later = between(dice, 256, shelf->used[0] - 1), first = between(dice, 64, later - 1);
+    uint8_t *line = shelf->lines + first * IN_LINE, *again = shelf->lines + later * IN_LINE;
+    memcpy(again, line, IN_KEY);
+    make_other_title(dice, line + IN_KEY, again + IN_KEY);
+    memcpy(untouched, again, IN_LINE);
+    memcpy(key, again, IN_TITLED);
+    expect(FIRST_OF_KEY_FAR, 1, deliver_new(dice, shelf, key, 3), 0);
+    expect(FIRST_OF_KEY_FAR, 1, tally.agreed, 0);
+    expect(FIRST_OF_KEY_FAR, 1, book_one(dice, shelf, REPORT_SHAPE, key, 0, NULL), 0);
+    expect(FIRST_OF_KEY_FAR, 1, tally.agreed, 0);
+    insist(memcmp(again, untouched, IN_LINE) == 0, "a later line with the key stays as it was");
+    memcpy(key, line, IN_TITLED);
+    expect(FIRST_OF_KEY_FAR, 1, book_one(dice, shelf, REPORT_SHAPE, key, 0, NULL), 0);
+    expect(FIRST_OF_KEY_FAR, 1, tally.agreed, 1);
+}
+
 /* A book of so many lines and slips, asked and booked at its far entries. */
 static void find_far(struct dice *dice, size_t lines, size_t slips)
 {
@@ -139,6 +160,7 @@ static void find_far(struct dice *dice, size_t lines, size_t slips)
     }
     repeat_slip(dice, &shelf, slip_of_far_line(&shelf));
     save_and_load(dice, &shelf, 1);
+    find_first_of_key(dice, &shelf);
 }
 
 /* Every call that judges the book refuses it. */
