@@ -6,6 +6,7 @@
 
 enum {
     ORDERED = 20, DELIVERED = 4, NEW_SLIP = 5000, SMALL_SAVE = 1000,
+    /* bytes of an address in a save for which a digit can stand: five digits and a blank */
     DIGITS_OF_ADDRESS = 6
 };
 
@@ -238,6 +239,8 @@ static void name_first_of_key(struct dice *dice, const struct titles *titles, en
     expect(LATER_OF_KEY_AGREES, !same, order(dice, &shelf, line, titles->other), 14);
     insist(memcmp(later, untouched, IN_LINE) == 0, "a later line with the key stays as it was");
     insist(get_little(line + IN_ARRIVED, 4) == arrived + 2 * DELIVERED, "the first is booked on");
+    expect(FIRST_OF_KEY_AGREES, 1, ask_line(line, &shelf), 0);
+    insist(tally.value == get_little(line + IN_ORDERED, 2), "the first line's figures are told");
     expect(SLIP_AGAIN_ON_LATER_OF_KEY, 1,
            deliver(dice, &shelf, line, titles->ours, copies, 0), 17);
     expect(SLIP_AGAIN_ON_LATER_OF_KEY, 1,
