@@ -30,15 +30,13 @@ wq_booked book_record(struct book *book, const struct record *record)
                    sizeof book->slips, book->used);
 }
 
-wq_booked book_line(const struct book *book, const uint8_t key[WQ_LINE_KEY_WIDTH])
+wq_told book_figures(const struct book *book, const uint8_t key[WQ_LINE_KEY_WIDTH])
 {
     return wq_line(key + WQ_LINE_SCHOOL, WQ_ADDRESS_WIDTH,
                    key + WQ_LINE_SCHOOL_QUALIFIER, WQ_QUALIFIER_WIDTH,
                    key + WQ_LINE_SUPPLIER, WQ_ADDRESS_WIDTH,
                    key + WQ_LINE_SUPPLIER_QUALIFIER, WQ_QUALIFIER_WIDTH,
                    key + WQ_LINE_REFERENCE, WQ_REFERENCE_WIDTH,
-                   key + WQ_LINE_ARTICLE, WQ_ARTICLE_WIDTH,
-                   key + WQ_LINE_ARTICLE_QUALIFIER, WQ_QUALIFIER_WIDTH,
                    book->lines, sizeof book->lines, book->slips, sizeof book->slips, book->used);
 }
 
@@ -48,9 +46,17 @@ uint64_t book_open_copies(const struct book *book, const uint8_t account[ACCOUNT
     for (size_t i = 0; i < book->used[WQ_USED_LINES]; i++) {
         const uint8_t *line = book->lines + i * WQ_LINE_WIDTH;
         if (memcmp(line + WQ_LINE_SCHOOL, account, ACCOUNT_WIDTH) == 0)
-            copies += book_line(book, line).still_open;
+            copies += book_figures(book, line).still_open;
     }
     return copies;
+}
+
+const uint8_t *book_line(const struct book *book, const uint8_t key[WQ_LINE_KEY_WIDTH])
+{
+    for (size_t i = 0; i < book->used[WQ_USED_LINES]; i++)
+        if (memcmp(book->lines + i * WQ_LINE_WIDTH, key, WQ_LINE_KEY_WIDTH) == 0)
+            return book->lines + i * WQ_LINE_WIDTH;
+    return NULL;
 }
 
 const uint8_t *book_slip(const struct book *book, const uint8_t key[WQ_SLIP_KEY_WIDTH])

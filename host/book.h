@@ -16,12 +16,13 @@ struct book {
 wq_booked book_record(struct book *book, const struct record *record);
 
 /* The figures of the line with this key, all of its fields in a row. */
-wq_booked book_line(const struct book *book, const uint8_t key[WQ_LINE_KEY_WIDTH]);
+wq_told book_figures(const struct book *book, const uint8_t key[WQ_LINE_KEY_WIDTH]);
 
 /* The copies that are open on all lines of a school. */
 uint64_t book_open_copies(const struct book *book, const uint8_t account[ACCOUNT_WIDTH]);
 
-/* The entry of the slip with this key, or NULL; the first one counts. */
+/* The entry of the line, or of the slip, with this key, or NULL; the first one counts. */
+const uint8_t *book_line(const struct book *book, const uint8_t key[WQ_LINE_KEY_WIDTH]);
 const uint8_t *book_slip(const struct book *book, const uint8_t key[WQ_SLIP_KEY_WIDTH]);
 
 /* The entry of the line that a slip is for, and the slip's copies. */

@@ -44,6 +44,7 @@ static struct tally book_records(struct booking *booking, struct book *book, str
         unsigned long before = tally.refused;
         print_answer(stdout, input->name, ++number, &record, &booked, book);
         count_answer(&tally, booked.answer);
+        booking->other_article += booked.answer == WQ_DONE && !booked.agreed;
         if (tally.refused > before && booking->all.refused + before < MOST_REPEATED)
             print_answer(booking->refused, input->name, number, &record, &booked, book);
     }
@@ -104,6 +105,8 @@ void booking_print_tally(const struct booking *booking)
 {
     printf("records: %lu booked, %lu with nothing to book, %lu refused\n", booking->all.booked,
            booking->all.no_need, booking->all.refused);
+    if (booking->other_article > 0)
+        printf("booked under another article than the order's: %lu\n", booking->other_article);
     if (booking->left_out > 0)
         printf("files booked before, and left out: %lu\n", booking->left_out);
 }

@@ -11,6 +11,7 @@ struct booking {
     int again;                  /* --again: files that were booked before are booked too */
     struct tally all;           /* over all files */
     unsigned long left_out;     /* files that were booked before */
+    unsigned long other_article; /* records booked under another article than the order's */
     FILE *refused;              /* answers that are told again at the end, */
     char *text;                 /* in memory */
     size_t length;

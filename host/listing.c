@@ -25,7 +25,7 @@ static int compare_keys(const void *one, const void *other)
     return memcmp(*first, *second, WQ_LINE_KEY_WIDTH);
 }
 
-static void add(struct sums *sums, const wq_booked *figures)
+static void add(struct sums *sums, const wq_told *figures)
 {
     sums->lines++;
     sums->ordered += figures->ordered;
@@ -53,7 +53,7 @@ static void print_who(const char *supplier, const char *reference, const char *a
     print_padded(article, ARTICLE_LETTERS);
 }
 
-static void print_line(const uint8_t *line, const wq_booked *figures)
+static void print_line(const uint8_t *line, const wq_told *figures)
 {
     char supplier[ACCOUNT_ROOM], reference[TEXT_ROOM], article[ACCOUNT_ROOM];
     text_with_qualifier(line + WQ_LINE_SUPPLIER, WQ_ADDRESS_WIDTH, supplier);
@@ -92,7 +92,7 @@ static size_t print_school(const struct book *book, const uint8_t *const *sorted
     size_t i;
     print_head(sorted[0]);
     for (i = 0; i < count && memcmp(sorted[i], sorted[0], ACCOUNT_WIDTH) == 0; i++) {
-        wq_booked figures = book_line(book, sorted[i]);
+        wq_told figures = book_figures(book, sorted[i]);
         add(&total, &figures);
         add(all, &figures);
         if (figures.still_open + figures.let_go + figures.extra > 0)

@@ -141,11 +141,11 @@ odd.bwa:10 B101 7 *9999 is missing or not last (place 67) | $who, reference A-22
 odd.bwa:11 B101 8 more than 64 optional fields (place 387) | $who, reference A-22, $item, quantity 0001
 odd.bwa:12 B101 9 an optional field has a wrong content: field *1029 (place 67) | $who, reference A-22, $item, quantity 0001
 odd.bwa:13 B101 11 the quantity is 0 | $who, reference A-22, $item, quantity 0000
-odd.bwa:14 B101 14 this order line is in the book already | $who, reference A-17, $item, quantity 0012 | in the book: quantity 0010
-odd.bwa:15 L101 16 no such order line in the book | $whom, position 0002, reference A-99, $item, quantity 0001
-odd.bwa:16 L101 18 this slip is booked already with another line or quantity | $whom, position 0001, reference A-18, $item, quantity 0009 | in the book: reference A-17, $item, quantity 0004
+odd.bwa:14 B101 14 the book has an order with this school, supplier and reference already | $who, reference A-17, $item, quantity 0012 | in the book: $item, quantity 0010
+odd.bwa:15 L101 16 the book has no order with this school, supplier and reference | $whom, position 0002, reference A-99, $item, quantity 0001
+odd.bwa:16 L101 18 this slip is booked already with another reference or quantity | $whom, position 0001, reference A-18, $item, quantity 0009 | in the book: reference A-17, quantity 0004, ordered as ${item#article }
 odd.bwa:17 L101 0 done | $whom, position 0003, reference A-18, $item, quantity 0300 | ordered 10, filled 10, open 0, let go 0, extra 290
-odd.bwa:18 L101 18 this slip is booked already with another line or quantity | $whom, position 0003, reference A-17, $item, quantity 0044 | in the book: reference A-18, $item, quantity 0300
+odd.bwa:18 L101 18 this slip is booked already with another reference or quantity | $whom, position 0003, reference A-17, $item, quantity 0044 | in the book: reference A-18, quantity 0300, ordered as ${item#article }
 records: 4 booked, 0 with nothing to book, 14 refused
 ANSWERS
 expect_text got wanted "odd records"

@@ -8,8 +8,7 @@
 enum {
     LAST_ANSWER = WQ_CEILING_PASSED,
     QUANTITY_WIDTH = 4,
-    ORDER_REFERENCE = 36,       /* where the reference stands in a B101 */
-    ORDER_QUANTITY = 61
+    FULL_ARTICLE_WIDTH = WQ_ARTICLE_WIDTH + WQ_QUALIFIER_WIDTH
 };
 
 static const char *const answer_words[LAST_ANSWER + 1] = {
@@ -27,11 +26,11 @@ static const char *const answer_words[LAST_ANSWER + 1] = {
     "the quantity is 0",
     "the reference is blank",
     "closing record or advance notice: nothing to book",
-    "this order line is in the book already",
+    "the book has an order with this school, supplier and reference already",
     "all lines of the book are used",
-    "no such order line in the book",
+    "the book has no order with this school, supplier and reference",
     "this slip is booked already: not booked twice",
-    "this slip is booked already with another line or quantity",
+    "this slip is booked already with another reference or quantity",
     "all slips of the book are used",
     "the book is unsound",
     "more than 9999999 copies on one line",
@@ -109,6 +108,16 @@ static const char *field_at(const struct record *record, uint64_t place)
     return field->name;
 }
 
+/* Where the fixed field of a name starts in the record. */
+static const uint8_t *field_named(const struct record *record, const char *name)
+{
+    const struct field *field = fields_of(record);
+    const uint8_t *start = record->bytes;
+    while (field->name != NULL && strcmp(field->name, name) != 0)
+        start += (field++)->width;
+    return start;
+}
+
 /* Some bytes of the record as text, after a word. */
 static void print_bytes(FILE *to, const char *word, const struct record *record, size_t place,
                         size_t width)
@@ -163,30 +172,43 @@ static void print_fields(FILE *to, const struct record *record)
     }
 }
 
-/* The quantity of the line that has an order's key already. A B101 holds the key in two
-   parts: the parties behind its kind, and all from the reference on. */
-static void print_line_booked(FILE *to, const struct record *record, const struct book *book)
+/* The entry of the line that has a record's school, supplier and reference, or NULL. */
+static const uint8_t *line_of(const struct record *record, const struct book *book)
 {
     uint8_t key[WQ_LINE_KEY_WIDTH];
-    memcpy(key, record->bytes + WQ_KIND_WIDTH, WQ_LINE_REFERENCE);
-    memcpy(key + WQ_LINE_REFERENCE, record->bytes + ORDER_REFERENCE,
-           WQ_LINE_KEY_WIDTH - WQ_LINE_REFERENCE);
-    fprintf(to, " | in the book: quantity %04" PRIu64, book_line(book, key).ordered);
+    memcpy(key + WQ_LINE_SCHOOL, field_named(record, "school"), ACCOUNT_WIDTH);
+    memcpy(key + WQ_LINE_SUPPLIER, field_named(record, "supplier"), ACCOUNT_WIDTH);
+    memcpy(key + WQ_LINE_REFERENCE, field_named(record, "reference"), WQ_REFERENCE_WIDTH);
+    return book_line(book, key);
 }
 
-/* What the slip was booked with that has a delivery's slip key already. */
+/* What the line was ordered with that has an order's key already: the same order once more,
+   or another article under a reference that is taken. */
+static void print_line_booked(FILE *to, const struct record *record, const struct book *book)
+{
+    const uint8_t *line = line_of(record, book), *article = field_named(record, "article");
+    char ordered[ACCOUNT_ROOM];
+    if (line == NULL)
+        return;
+    text_with_qualifier(line + WQ_LINE_ARTICLE, WQ_ARTICLE_WIDTH, ordered);
+    fprintf(to, " | in the book: %s %s, quantity %04" PRIu64,
+            memcmp(line + WQ_LINE_ARTICLE, article, FULL_ARTICLE_WIDTH) == 0
+            ? "article" : "another article,", ordered, book_figures(book, line).ordered);
+}
+
+/* What the slip was booked with that has a delivery's slip key already, and what was ordered
+   there. A slip does not keep the article that it named. */
 static void print_slip_booked(FILE *to, const struct record *record, const struct book *book)
 {
     const uint8_t *slip = book_slip(book, record->bytes + WQ_KIND_WIDTH), *line;
-    char reference[TEXT_ROOM], article[TEXT_ROOM], qualifier[TEXT_ROOM];
+    char reference[TEXT_ROOM], ordered[ACCOUNT_ROOM];
     if (slip == NULL)
         return;
     line = book_line_of_slip(book, slip);
     text_of(line + WQ_LINE_REFERENCE, WQ_REFERENCE_WIDTH, reference);
-    text_of(line + WQ_LINE_ARTICLE, WQ_ARTICLE_WIDTH, article);
-    text_of(line + WQ_LINE_ARTICLE_QUALIFIER, WQ_QUALIFIER_WIDTH, qualifier);
-    fprintf(to, " | in the book: reference %s, article %s %s, quantity %04u", reference, article,
-            qualifier, book_copies_of_slip(slip));
+    text_with_qualifier(line + WQ_LINE_ARTICLE, WQ_ARTICLE_WIDTH, ordered);
+    fprintf(to, " | in the book: reference %s, quantity %04u, ordered as %s", reference,
+            book_copies_of_slip(slip), ordered);
 }
 
 /* The account that is not on the roster, and those on it that may have been meant. */
@@ -203,13 +225,30 @@ static void print_ceiling_passed(FILE *to, const struct record *record, const st
 {
     uint64_t copies = book_open_copies(book, record_school(record)), quantity = 0;
     for (size_t i = 0; i < QUANTITY_WIDTH; i++)
-        quantity = 10 * quantity + (uint64_t)(record->bytes[ORDER_QUANTITY + i] - '0');
+        quantity = 10 * quantity + (uint64_t)(field_named(record, "quantity")[i] - '0');
     fprintf(to, " | open for the school %" PRIu64 ", with this order %" PRIu64 ", ceiling %" PRIu64,
             copies, copies + quantity, roster_account(book->roster, record_school(record)).ceiling);
 }
 
-static void print_figures(FILE *to, const wq_booked *booked)
+/* Both articles of a record that was booked on a line with another one than its own: a
+   supplier may answer with its own number for a title. */
+static void print_articles(FILE *to, const struct record *record, const struct book *book)
 {
+    const uint8_t *line = line_of(record, book);
+    char ordered[ACCOUNT_ROOM], answered[ACCOUNT_ROOM];
+    if (line == NULL)
+        return;
+    text_with_qualifier(line + WQ_LINE_ARTICLE, WQ_ARTICLE_WIDTH, ordered);
+    text_with_qualifier(field_named(record, "article"), WQ_ARTICLE_WIDTH, answered);
+    fprintf(to, " | another article: ordered as %s, answered as %s", ordered, answered);
+}
+
+/* What came of a record that was booked. */
+static void print_booked(FILE *to, const struct record *record, const wq_booked *booked,
+                         const struct book *book)
+{
+    if (!booked->agreed)
+        print_articles(to, record, book);
     fprintf(to, " | ordered %" PRIu64 ", filled %" PRIu64 ", open %" PRIu64
             ", let go %" PRIu64 ", extra %" PRIu64, booked->ordered, booked->filled,
             booked->still_open, booked->let_go, booked->extra);
@@ -235,6 +274,6 @@ void print_answer(FILE *to, const char *name, unsigned long number, const struct
     else if (booked->answer == WQ_CEILING_PASSED)
         print_ceiling_passed(to, record, book);
     else if (booked->answer == WQ_DONE)
-        print_figures(to, booked);
+        print_booked(to, record, booked, book);
     fputc('\n', to);
 }
