@@ -15,7 +15,8 @@
 enum {
     FILE_MODE = 0666,           /* for a new book: less what the umask takes away */
     MODE_BITS = 07777,
-    WRITE_BITS = 0222
+    WRITE_BITS = 0222,
+    NOTE_ROOM = 6 * ACCOUNT_ROOM
 };
 
 /* The path of a book that is not there yet: its directory has to be. */
@@ -223,6 +224,58 @@ static int judge_digest(struct book_file *file)
     return 0;
 }
 
+/* How many whole lines stand at the front of a saved book, valid or not. */
+static size_t count_lines(const struct saved *saved)
+{
+    size_t count = 0;
+    while ((count + 1) * WQ_SAVE_LINE_WIDTH <= saved->length &&
+           saved->bytes[count * WQ_SAVE_LINE_WIDTH] == WQ_SAVE_LINE)
+        count++;
+    return count;
+}
+
+/* A saved line behind its byte of kind. */
+static const uint8_t *line_at(const struct saved *saved, size_t index)
+{
+    return saved->bytes + index * WQ_SAVE_LINE_WIDTH + 1;
+}
+
+/* Names two saved lines that share a key. */
+static void complain_of_shared(const char *path, const uint8_t *first, const uint8_t *second)
+{
+    char school[ACCOUNT_ROOM], supplier[ACCOUNT_ROOM], reference[TEXT_ROOM];
+    char one[ACCOUNT_ROOM], other[ACCOUNT_ROOM], note[NOTE_ROOM];
+    text_with_qualifier(first + WQ_LINE_SCHOOL, WQ_ADDRESS_WIDTH, school);
+    text_with_qualifier(first + WQ_LINE_SUPPLIER, WQ_ADDRESS_WIDTH, supplier);
+    text_of(first + WQ_LINE_REFERENCE, WQ_REFERENCE_WIDTH, reference);
+    text_with_qualifier(first + WQ_LINE_ARTICLE, WQ_ARTICLE_WIDTH, one);
+    text_with_qualifier(second + WQ_LINE_ARTICLE, WQ_ARTICLE_WIDTH, other);
+    snprintf(note, sizeof note, "reference %s of school %s and supplier %s stands in this book "
+             "for %s and for %s", reference, school, supplier, one, other);
+    complain(path, note);
+}
+
+/* Tells why a book is no valid save, as far as that is easily seen. Two orders could share
+   school, supplier and reference as long as the article was a part of a line's key, so a book
+   of that time may be refused though nothing happened to it. */
+static void complain_of_invalid(const char *path, const struct saved *saved)
+{
+    size_t count = count_lines(saved), shared = 0;
+    for (size_t i = 0; i < count; i++) {
+        size_t first = 0;
+        while (memcmp(line_at(saved, first), line_at(saved, i), WQ_LINE_KEY_WIDTH) != 0)
+            first++;
+        if (first == i)
+            continue;
+        complain_of_shared(path, line_at(saved, first), line_at(saved, i));
+        shared++;
+    }
+    complain(path, shared == 0
+             ? "answer 22: the book is damaged; it is left untouched"
+             : "answer 22: the book is damaged, or was saved when two orders could share "
+               "school, supplier and reference; it is left untouched");
+}
+
 /* Hands the file's bytes to the library and tells what a refusal means. */
 static int load_bytes(const struct book_file *file, struct book *book)
 {
@@ -230,7 +283,7 @@ static int load_bytes(const struct book_file *file, struct book *book)
     wq_loaded loaded = wq_load(file->loaded.bytes, file->loaded.length, book->lines,
                                sizeof book->lines, book->slips, sizeof book->slips, book->used);
     if (loaded.answer == WQ_SAVE_INVALID)
-        complain(path, "answer 22: the book is damaged; it is left untouched");
+        complain_of_invalid(path, &file->loaded);
     else if (loaded.answer == WQ_TOO_SMALL)
         complain(path, "answer 23: the book has more than 512 lines or 1024 slips; "
                        "it is left untouched");

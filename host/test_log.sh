@@ -74,6 +74,52 @@ run --accept-book long.book order.bwa
 expect_code 2 "book that is too long, accepted"
 expect_err "no book is as long as this file" "book that is too long, accepted"
 
+# --- books of the time when two orders could share school, supplier and reference ---------------------------
+saved_line() { printf '\001%-12s%-12s%-10s%s\003\000\000' "$1" "$2" "$3" "$4"; }
+line_of() { saved_line '43210     VD' '24000     VD' "$1" "$2"; }
+pairs=$(pwd -P)/pairs.book
+shared() {          # reference, and the two articles
+    echo "wizqamul-host: $pairs: reference $1 of school 43210 VD and supplier 24000 VD stands in this book for $2 and for $3"
+}
+refused_pairs() {   # what it is; `wanted_err` has the orders that are named
+    echo "wizqamul-host: $pairs: answer 22: the book is damaged, or was saved when two orders could share school, supplier and reference; it is left untouched" >>wanted_err
+    { head -n 1 first.book.digests; echo "$(digest pairs.book) 2024-02-19T08:00:00Z"; } >pairs.book.digests
+    refused_book pairs.book "$(tail -n 1 wanted_err)" "$1"
+    run pairs.book
+    expect_text err wanted_err "$1"
+    rm pairs.book.digests
+    damaged_accepted pairs.book 22 "$1, accepted"
+    expect_err "$(head -n 1 wanted_err)" "$1, accepted"
+}
+near() {            # a line, and others that share a part of its key
+    line_of A-17 9783442756841EN
+    line_of A-18 9783442756841EN
+    saved_line '43211     VD' '24000     VD' A-17 9783442756841EN
+    saved_line '43210     IB' '24000     VD' A-17 9783442756841EN
+    saved_line '43210     VD' '24001     VD' A-17 9783442756841EN
+    saved_line '43210     VD' '24000     SA' A-17 9783442756841EN
+}
+slip='\00224000     VD43210     VD2024022670012345  0001\000\000\004\000'
+{ near; printf "$slip"'\000\006\000\001\000'; } >near.book
+run --accept-book near.book
+expect_code 0 "lines that share a part of a key"
+{ near; line_of A-17 '12345678     KN'; printf "$slip"'\000\007\000\001\000'; } >pairs.book
+shared A-17 "9783442756841 EN" "12345678 KN" >wanted_err
+refused_pairs "two orders with one reference"
+odd=$(printf 'A\033[2J')
+{ line_of A-17 9783442756841EN; line_of "$odd" '12345678     KN'; line_of A-17 '12345678     KN'
+  line_of A-17 9783442756841UM; line_of "$odd" 9783442756841EN; } >pairs.book
+{ shared A-17 "9783442756841 EN" "12345678 KN"; shared A-17 "9783442756841 EN" "9783442756841 UM"
+  shared 'A\x1B[2J' "12345678 KN" "9783442756841 EN"; } >wanted_err
+refused_pairs "several orders with one reference, without an end"
+line_of A-17 '12345678     KN' >second
+{ near; head -c 52 second; } >half.book
+{ near; tr '\001' '\003' <second; printf '\000\007\000\000\000'; } >kind.book
+for book in half kind; do
+    damaged_accepted $book.book "22: the book is damaged; it is left untouched" "no second line in $book.book"
+    expect_not "stands in this book" err "no second line in $book.book"
+done
+
 # --- a book taken on purpose -----------------------------------------------------------------------------------
 run --accept-book lonely.book
 expect_code 0 "accepting without a file"
