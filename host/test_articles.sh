@@ -18,7 +18,8 @@ put "$X" "$(order A-18 0003 '' | as "$own")" "$(order A-17 0006 '' | for_line 43
     "$(delivery 0001 0004 | as "$own")" "$(delivery 0002 0001)" "$(delivery 0002 0002 | as "$own")" \
     "$(delivery 0002 0001 | for_line A-17 A-18 | as "$own")" \
     "$(delivery 0007 0001 | for_line A-17 A-99 | as "$own")" "$(report 010N | for_line A-17 A-99 | as "$own")" \
-    "$(delivery 0008 0000 | as "$own")" "$(delivery 0009 0001 | as "$own" | for_line 70012345 '        ')" >articles.bwa
+    "$(delivery 0008 0000 | as "$own")" "$(delivery 0009 0001 | as "$own" | for_line 70012345 '        ')" \
+    "$(order A-17 0010 '' | as "$title")" >articles.bwa
 run --new articles.book articles.bwa
 expect_code 1 "articles"
 ordered="| another article: ordered as 9783442756841 EN, answered as"
@@ -51,12 +52,13 @@ articles.bwa:23 L101 16 the book has no order with this school, supplier and ref
 articles.bwa:24 M101 16 the book has no order with this school, supplier and reference | supplier 24000 VD, school 43210 VD, slip number 70012345, reference A-99, article 12345678 KN, message 010, hold mark N, expected date blank
 articles.bwa:25 L101 11 the quantity is 0 | $whom, position 0008, reference A-17, article 12345678 KN, quantity 0000
 articles.bwa:26 L101 13 closing record or advance notice: nothing to book | supplier 24000 VD, school 43210 VD, date 20240226, slip number blank, position 0009, reference A-17, article 12345678 KN, quantity 0001
-records: 15 booked, 3 with nothing to book, 8 refused
+articles.bwa:27 B101 14 the book has an order with this school, supplier and reference already | $who, reference A-17, article 9783120060017 EN, quantity 0010 | in the book: another article, 9783442756841 EN, quantity 0010
+records: 15 booked, 3 with nothing to book, 9 refused
 booked under another article than the order's: 9
 ANSWERS
 sed '/^$/,$d' out >got
 expect_text got wanted "articles"
-sed -n '/^Refused records, once more: 8$/,$p' out | sed 1d >got
+sed -n '/^Refused records, once more: 9$/,$p' out | sed 1d >got
 grep -e ' 1[1468] the ' -e ' 18 this slip ' wanted >again
 expect_text got again "articles, repeated at the end"
 
