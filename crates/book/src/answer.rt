@@ -46,7 +46,12 @@ pub struct Told {
     pub figures: Figures,
 }
 
-// The same of a record's line, and whether the record named the line's article: 1 or 0.
+// What a booking tells of the articles.
+pub const AGREED: u64 = 1;
+
+pub const NOT_AGREED: u64 = 0;
+
+// What is told of a record's line, and whether the record named the line's article.
 #[repr(C)]
 pub struct Booked {
     pub answer: u64,
@@ -143,5 +148,5 @@ pub fn with_agreed(t: Told, agreed: u64) -> Booked
 pub fn not_booked(r: Refused) -> Booked
     ensures { λ b. ⌜ b ≡ notBooked r ⌝ }
 {
-    with_agreed(refuse(r), 0)
+    with_agreed(refuse(r), NOT_AGREED)
 }

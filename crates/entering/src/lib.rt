@@ -2,12 +2,14 @@
 ghost use mathlib.Core.Path.{_≡_};
 ghost use Prim.Native.Nat.{_+_, _*_, _≤_, _<_};
 ghost use lib.ListN.{length, getD};
-ghost use Rattle.record.specs.Layout.{fixedWidth};
 ghost use Rattle.cells.specs.Bytes.{pick};
+ghost use Rattle.record.specs.Layout.{fixedWidth};
 ghost use Rattle.entry.specs.Stored.{lineWidth, slipWidth, mostArrived, lineAt, articleIs};
 ghost use Rattle.book.specs.Lent.{mostLines, mostSlips, lent};
 ghost use Rattle.book.specs.Booking.{copiesIn, newLine, markIn, outcome, enteredAs};
+use book::answer::AGREED;
 use book::answer::Booked;
+use book::answer::NOT_AGREED;
 use book::answer::done;
 use book::answer::with_agreed;
 use cells::part;
@@ -36,11 +38,6 @@ use rules::amount::copies_of;
 
 // The mark that holds an order open.
 const LETTER_J: u8 = 74;
-
-// What a booking tells of the articles.
-const AGREED: u64 = 1;
-
-const NOT_AGREED: u64 = 0;
 
 // A new line: nothing has arrived, no mark.
 fn new_line(copies: Copies) -> Line

@@ -5,8 +5,6 @@ pub const QUALIFIER_WIDTH: usize = 2;
 
 pub const REFERENCE_WIDTH: usize = 10;
 
-pub const ARTICLE_WIDTH: usize = 13;
-
 pub const FIRST_QUALIFIER_AT: usize = 10;
 
 pub const SECOND_PARTY_AT: usize = 12;
