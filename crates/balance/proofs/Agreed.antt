@@ -12,7 +12,7 @@ use Rattle.record.specs.declared.layout.Kinded.the-variants.{Known}
 use Rattle.entry.specs.Stored.{articleIs}
 use Rattle.ledger.specs.Lists.{given}
 use Rattle.book.specs.Lent.{Lent}
-use Rattle.book.specs.Booking.{articleFields, articleIn, agreedAs, bookJudged}
+use Rattle.book.specs.Booking.{articleFields, articleIn, agreedAt, agreedAs, bookJudged}
 use Rattle.book.specs.declared.answer.Verdict.the-variants.{Fits}
 use Rattle.book.specs.declared.answer.Booked.{Booked}
 use Rattle.balance.specs.Met.{Met}
@@ -30,7 +30,7 @@ use Rattle.balance.proofs.Stands.{Stands, stands}
 
 -- what is told is whether the record names the article of its line afterwards
 kind-agreed : (k : Kind) (s : List ℕ) (b : Lent) (i ceiling : ℕ) → bookJudged k s ceiling b ≡ Fits i → agreedAs k s b i ≡ pick (same (articleAfter k s b i) (articleIn k s)) 1 0
-unfolding agreedAs articleAfter articleIs bookJudged
+unfolding agreedAt agreedAs articleAfter articleIs bookJudged
 kind-agreed Order s b i ceiling e = rw (same-refl (articleIn Order s)) refl
 kind-agreed Goods s b i ceiling e = refl
 kind-agreed Closing s b i ceiling e = let z : _≡_ {A = ℕ} 0 1 = cc in absurd (omega arith)

@@ -13,7 +13,7 @@ use Rattle.cells.proofs.Bools.{split}
 use Rattle.rules.specs.declared.amount.Copies.{Copies}
 use Rattle.entry.specs.Stored.{lineWidth, keyWidth, orderedAt, slipWidth, slipKeyWidth, putLine, addLine, keyAt, articleAt, slipLineAt, addSlip}
 use Rattle.entry.specs.declared.line.Line.{Line as Stored}
-use Rattle.entry.proofs.Kept.{put-length, put-back, put-apart, put-key, add-length, add-back, add-key, add-apart, add-key-apart, slip-length, slip-key, slip-line, slip-copies, slip-key-apart, slip-line-apart, slip-copies-apart, put-article, add-article, add-article-apart}
+use Rattle.entry.proofs.Kept.{put-length, put-back, put-apart, put-key, put-article, add-length, add-back, add-key, add-article, add-apart, add-key-apart, add-article-apart, slip-length, slip-key, slip-line, slip-copies, slip-key-apart, slip-line-apart, slip-copies-apart}
 use Rattle.entry.proofs.Sound.{Bounded, put-sound, put-sound-apart, add-sound, add-sound-apart}
 use Rattle.ledger.specs.Book.{Key, Line, Slip}
 use Rattle.book.specs.Lent.{Lent, usedLines, usedSlips, lineRoom, slipRoom}

@@ -36,10 +36,7 @@ delivering article = put 60 article Y
 abbrev pub reporting : String → List ℕ
 reporting article = put 48 article Z
 
--- X's own article; another number with its qualifier; its number with another qualifier; and a number of the supplier's own
-abbrev pub ordered : String
-ordered = "9783442756841EN"
-
+-- for X's article, 9783442756841EN: another number with its qualifier; its number with another qualifier; and a number of the supplier's own
 abbrev pub otherNumber : String
 otherNumber = "9783442756858EN"
 

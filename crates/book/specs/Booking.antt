@@ -242,22 +242,28 @@ refusedAs r = record { answer = refusedNumber r; place = refusedPlace r; figures
 unfoldable pub doneAs : Line → Told
 doneAs l = record { answer = 0; place = 0; figures = figuresOf l }
 
--- what is told of a line and whether the articles agreed, as one and taken apart; those of a refused record did not
+-- what is told of a record's line, with whether the articles agreed
 abbrev pub bookedAs : Told → ℕ → Booked
 bookedAs t agreed = record { answer = t .answer; place = t .place; figures = t .figures; agreed = agreed }
 
+-- the same without it
 abbrev pub toldIn : Booked → Told
 toldIn said = record { answer = said .answer; place = said .place; figures = said .figures }
 
+-- what booking says of a record that is refused: nothing agreed
 abbrev pub notBooked : Refused → Booked
 notBooked r = bookedAs (refusedAs r) 0
 
--- 1 where the record names the article of the line at i, number and qualifier byte for byte, else 0; an order names its own
+-- 1 where the line at i was ordered under an article, number and qualifier byte for byte, else 0
+unfoldable pub agreedAt : List ℕ → List ℕ → ℕ → ℕ
+agreedAt lines article i = pick (articleIs lines article i) 1 0
+
+-- what is told of a record of a kind that is entered at the line with an index: an order is its line's own; a closing record is never entered
 unfoldable pub agreedAs : Kind → List ℕ → Lent → ℕ → ℕ
 agreedAs Order s b i = 1
-agreedAs Goods s b i = pick (articleIs (b .lines) (articleIn Goods s) i) 1 0
+agreedAs Goods s b i = agreedAt (b .lines) (articleIn Goods s) i
 agreedAs Closing s b i = 0
-agreedAs Report s b i = pick (articleIs (b .lines) (articleIn Report s) i) 1 0
+agreedAs Report s b i = agreedAt (b .lines) (articleIn Report s) i
 
 -- a record of a kind entered at the line with an index
 unfoldable pub enteredAs : Kind → List ℕ → Lent → ℕ → Outcome

@@ -5,16 +5,16 @@ use Prim.Native.Nat.{ℕ, _+_, _≤_}
 use native.Mathlib.Omega.{arith}
 use borrow.Author.Tests.{ne-eqb}
 use lib.ListN.{length, getD, set}
-use Rattle.cells.specs.Bytes.{pick, same}
+use Rattle.cells.specs.Bytes.{same}
 use Rattle.cells.proofs.Parts.{next, nothing}
 use Rattle.record.specs.Layout.{layout, total, startOf, fixedWidth}
 use Rattle.record.specs.Values.{fieldBytes}
 use Rattle.record.specs.declared.layout.Kind.the-variants.{Order, Goods, Report}
 use Rattle.entry.specs.Line.{withMark, withArrivals}
-use Rattle.entry.specs.Stored.{lineAt, articleIs, putLine, addLine, addSlip}
+use Rattle.entry.specs.Stored.{lineAt, putLine, addLine, addSlip}
 use Rattle.entry.specs.declared.line.Mark.the-variants.{Held, Dropped}
 use Rattle.book.specs.Lent.{lent, usedLines, usedSlips}
-use Rattle.book.specs.Booking.{lineKey, articleIn, slipKey, copiesIn, markIn, newLine, lineAfter, lentAfter, outcome, doneAs, bookedAs, agreedAs, enteredAs}
+use Rattle.book.specs.Booking.{lineKey, articleIn, slipKey, copiesIn, markIn, newLine, lineAfter, lentAfter, outcome, doneAs, bookedAs, agreedAt, agreedAs, enteredAs}
 use Rattle.values.proofs.Places.{report-width}
 
 -- the field with the mark is one byte
@@ -41,13 +41,13 @@ module _ (s lines slips used : List ℕ) (i : ℕ) where
   order-entered = refl
 
   pub goods-entered :
-      outcome (bookedAs (doneAs (withArrivals (copiesIn Goods s) (lineAt lines i))) (pick (articleIs lines (articleIn Goods s) i) 1 0)) (lent (putLine lines i (withArrivals (copiesIn Goods s) (lineAt lines i))) (addSlip slips (getD used 1 0) (slipKey s) i (copiesIn Goods s)) (set used 1 (getD used 1 0 + 1)))
+      outcome (bookedAs (doneAs (withArrivals (copiesIn Goods s) (lineAt lines i))) (agreedAt lines (articleIn Goods s) i)) (lent (putLine lines i (withArrivals (copiesIn Goods s) (lineAt lines i))) (addSlip slips (getD used 1 0) (slipKey s) i (copiesIn Goods s)) (set used 1 (getD used 1 0 + 1)))
       ≡ enteredAs Goods s (lent lines slips used) i
   unfolding enteredAs lineAfter agreedAs lentAfter usedSlips
   goods-entered = refl
 
   pub report-entered :
-      outcome (bookedAs (doneAs (withMark (markIn s) (lineAt lines i))) (pick (articleIs lines (articleIn Report s) i) 1 0)) (lent (putLine lines i (withMark (markIn s) (lineAt lines i))) slips used)
+      outcome (bookedAs (doneAs (withMark (markIn s) (lineAt lines i))) (agreedAt lines (articleIn Report s) i)) (lent (putLine lines i (withMark (markIn s) (lineAt lines i))) slips used)
       ≡ enteredAs Report s (lent lines slips used) i
   unfolding enteredAs lineAfter agreedAs lentAfter
   report-entered = refl

@@ -2,11 +2,10 @@
 ghost use mathlib.Core.Path.{_≡_};
 ghost use Prim.Native.Nat.{_+_, _*_, _≤_, _<_};
 ghost use lib.ListN.{length, getD};
-ghost use Rattle.cells.specs.Bytes.{pick};
 ghost use Rattle.record.specs.Layout.{fixedWidth};
-ghost use Rattle.entry.specs.Stored.{lineWidth, slipWidth, mostArrived, lineAt, articleIs};
+ghost use Rattle.entry.specs.Stored.{lineWidth, slipWidth, mostArrived, lineAt};
 ghost use Rattle.book.specs.Lent.{mostLines, mostSlips, lent};
-ghost use Rattle.book.specs.Booking.{copiesIn, newLine, markIn, outcome, enteredAs};
+ghost use Rattle.book.specs.Booking.{copiesIn, newLine, markIn, agreedAt, outcome, enteredAs};
 use book::answer::AGREED;
 use book::answer::Booked;
 use book::answer::NOT_AGREED;
@@ -64,7 +63,7 @@ fn mark_in(s: &[u8]) -> Mark
 // Whether a record names the article of the line with an index.
 fn agreed(lines: &[u8], i: usize, article: &[u8]) -> u64
     requires { ⌜ lineWidth * i + lineWidth ≤ length (now lines) ⌝ }
-    ensures { λ r. ⌜ r ≡ pick (articleIs (now (lines .entry)) (now (article .entry)) i) 1 0 ⌝ }
+    ensures { λ r. ⌜ r ≡ agreedAt (now (lines .entry)) (now (article .entry)) i ⌝ }
 {
     if article_is(lines, i, article) {
         return AGREED;

@@ -20,7 +20,7 @@ use Rattle.record.specs.Edges.{fullTable}
 use Rattle.entry.specs.Line.{markByte, withMark, withArrivals, openOf, letGoOf, filledOf, figuresOf}
 use Rattle.entry.specs.Stored.{lineAt, lineBytes, putLine, addLine, keyAt, keyIs, articleAt, articleIs, schoolAt, schoolIs, openAt, lineSound, slipKeyAt, slipIs, slipLineAt, slipCopiesAt, addSlip, slipSound}
 use Rattle.book.specs.Lent.{usedLines, usedSlips, lineRoom, slipRoom, roomSound, sound, findLine, findSlip, openCopies, roomsSound}
-use Rattle.book.specs.Booking.{refusedNumber, refusedPlace, keyFields, lineKey, articleFields, articleIn, schoolIn, slipKey, copiesIn, nothingToBook, noCopies, noReference, markIn, newLineJudged, orderJudged, slipJudged, arrivalJudged, goodsJudged, deliveryJudged, reportJudged, bookJudged, onRoster, fitJudged, newLine, lineAfter, lentAfter, refusedAs, doneAs, agreedAs, enteredAs, settled, bookAs, bookKind, bookRead, book}
+use Rattle.book.specs.Booking.{refusedNumber, refusedPlace, keyFields, lineKey, articleFields, articleIn, schoolIn, slipKey, copiesIn, nothingToBook, noCopies, noReference, markIn, newLineJudged, orderJudged, slipJudged, arrivalJudged, goodsJudged, deliveryJudged, reportJudged, bookJudged, onRoster, fitJudged, newLine, lineAfter, lentAfter, refusedAs, doneAs, agreedAt, agreedAs, enteredAs, settled, bookAs, bookKind, bookRead, book}
 use Rattle.book.specs.Asked.{areWide, figuresAt, figuresOfKey, lineAsked}
 use Rattle.book.specs.Cases.{roomy, schools, withBoth, desk, sample, sampleSays, others, othersSay, says, unsound, answersTo, unsoundSays, asked, askedSay}
 use Rattle.book.specs.Pairs.{trials, rosterTrials, firstWrong as trialWrong}
@@ -28,7 +28,7 @@ use Rattle.book.specs.Articles.{namings, firstWrong as namingWrong, ownSample}
 
 -- the line that X adds, asked for by its key
 calls-by-key : asked (book X schools (roomy 1 1) .lent) ≡ askedSay
-unfolding all any run same among leAt leBytes belongs allOf ofClass padded named numberFrom leap monthDays realDay dayOf isDay checkValue weighted gs1 isbn seriesVolume article texts dayCount expected keeps layout total fixedWidth startOf kindOf firstBroken contents isIn ruleIn contentRule guardedIds guarded contentKept groups firstOf nextIn previousIn groupWith nextMember previousMember isWanted groupKept refusalNumber refusalPlace checkedOf _then_ headOf idIn idOf contentWidth contentOf fieldWidth afterField onHead atField walk judge fieldBytes bytesJudged fixedJudged afterWalk optionalJudged kindJudged judged markByte withMark withArrivals openOf letGoOf filledOf figuresOf lineAt lineBytes putLine addLine keyAt keyIs articleAt articleIs schoolAt schoolIs openAt lineSound slipKeyAt slipIs slipLineAt slipCopiesAt addSlip slipSound usedLines usedSlips lineRoom slipRoom roomSound roomsSound firstFrom allFrom sumFrom sound rosterSound entries accountAt accountIs ceilingAt findAccount standingAt standing findLine findSlip openCopies refusedNumber refusedPlace joined keyFields lineKey articleFields articleIn schoolIn slipKey copiesIn nothingToBook noCopies noReference markIn newLineJudged orderJudged slipJudged arrivalJudged goodsJudged deliveryJudged reportJudged bookJudged onRoster fitJudged newLine lineAfter lentAfter refusedAs doneAs agreedAs enteredAs settled bookAs bookKind bookRead book areWide figuresAt figuresOfKey lineAsked asked askedSay
+unfolding all any run same among leAt leBytes belongs allOf ofClass padded named numberFrom leap monthDays realDay dayOf isDay checkValue weighted gs1 isbn seriesVolume article texts dayCount expected keeps layout total fixedWidth startOf kindOf firstBroken contents isIn ruleIn contentRule guardedIds guarded contentKept groups firstOf nextIn previousIn groupWith nextMember previousMember isWanted groupKept refusalNumber refusalPlace checkedOf _then_ headOf idIn idOf contentWidth contentOf fieldWidth afterField onHead atField walk judge fieldBytes bytesJudged fixedJudged afterWalk optionalJudged kindJudged judged markByte withMark withArrivals openOf letGoOf filledOf figuresOf lineAt lineBytes putLine addLine keyAt keyIs articleAt articleIs schoolAt schoolIs openAt lineSound slipKeyAt slipIs slipLineAt slipCopiesAt addSlip slipSound usedLines usedSlips lineRoom slipRoom roomSound roomsSound firstFrom allFrom sumFrom sound rosterSound entries accountAt accountIs ceilingAt findAccount standingAt standing findLine findSlip openCopies refusedNumber refusedPlace joined keyFields lineKey articleFields articleIn schoolIn slipKey copiesIn nothingToBook noCopies noReference markIn newLineJudged orderJudged slipJudged arrivalJudged goodsJudged deliveryJudged reportJudged bookJudged onRoster fitJudged newLine lineAfter lentAfter refusedAs doneAs agreedAt agreedAs enteredAs settled bookAs bookKind bookRead book areWide figuresAt figuresOfKey lineAsked asked askedSay
 calls-by-key = refl
 
 pub record Computed : Type 0 where
@@ -50,5 +50,5 @@ pub record Computed : Type 0 where
   pub own-numbers : desk (roomy 2 4) ownSample ≡ sampleSays
 
 pub computed : Computed
-unfolding all any run same among leAt leBytes belongs allOf ofClass padded named numberFrom leap monthDays realDay dayOf isDay checkValue weighted gs1 isbn seriesVolume article texts dayCount expected keeps layout total fixedWidth startOf kindOf firstBroken contents isIn ruleIn contentRule guardedIds guarded contentKept groups firstOf nextIn previousIn groupWith nextMember previousMember isWanted groupKept refusalNumber refusalPlace checkedOf _then_ headOf idIn idOf contentWidth contentOf fieldWidth afterField onHead atField walk judge fieldBytes bytesJudged fixedJudged afterWalk optionalJudged kindJudged judged entriesOf optionalStart tableAfter check fullTable cases firstWrong markByte withMark withArrivals openOf letGoOf filledOf figuresOf lineAt lineBytes putLine addLine keyAt keyIs articleAt articleIs schoolAt schoolIs openAt lineSound slipKeyAt slipIs slipLineAt slipCopiesAt addSlip slipSound usedLines usedSlips lineRoom slipRoom roomSound roomsSound firstFrom allFrom sumFrom sound rosterSound entries accountAt accountIs ceilingAt findAccount standingAt standing findLine findSlip openCopies refusedNumber refusedPlace joined keyFields lineKey articleFields articleIn schoolIn slipKey copiesIn nothingToBook noCopies noReference markIn newLineJudged orderJudged slipJudged arrivalJudged goodsJudged deliveryJudged reportJudged bookJudged onRoster fitJudged newLine lineAfter lentAfter refusedAs doneAs agreedAs enteredAs settled bookAs bookKind bookRead book desk sample sampleSays others othersSay unsound answersTo unsoundSays trials rosterTrials trialWrong namings namingWrong ownSample
+unfolding all any run same among leAt leBytes belongs allOf ofClass padded named numberFrom leap monthDays realDay dayOf isDay checkValue weighted gs1 isbn seriesVolume article texts dayCount expected keeps layout total fixedWidth startOf kindOf firstBroken contents isIn ruleIn contentRule guardedIds guarded contentKept groups firstOf nextIn previousIn groupWith nextMember previousMember isWanted groupKept refusalNumber refusalPlace checkedOf _then_ headOf idIn idOf contentWidth contentOf fieldWidth afterField onHead atField walk judge fieldBytes bytesJudged fixedJudged afterWalk optionalJudged kindJudged judged entriesOf optionalStart tableAfter check fullTable cases firstWrong markByte withMark withArrivals openOf letGoOf filledOf figuresOf lineAt lineBytes putLine addLine keyAt keyIs articleAt articleIs schoolAt schoolIs openAt lineSound slipKeyAt slipIs slipLineAt slipCopiesAt addSlip slipSound usedLines usedSlips lineRoom slipRoom roomSound roomsSound firstFrom allFrom sumFrom sound rosterSound entries accountAt accountIs ceilingAt findAccount standingAt standing findLine findSlip openCopies refusedNumber refusedPlace joined keyFields lineKey articleFields articleIn schoolIn slipKey copiesIn nothingToBook noCopies noReference markIn newLineJudged orderJudged slipJudged arrivalJudged goodsJudged deliveryJudged reportJudged bookJudged onRoster fitJudged newLine lineAfter lentAfter refusedAs doneAs agreedAt agreedAs enteredAs settled bookAs bookKind bookRead book desk sample sampleSays others othersSay unsound answersTo unsoundSays trials rosterTrials trialWrong namings namingWrong ownSample
 computed = record { samples = refl; desk-sample = refl; desk-others = refl; broken = refl; keyed = calls-by-key; entered = refl; ordered = refl; rosters = refl; articles = refl; own-numbers = refl }

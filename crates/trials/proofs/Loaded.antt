@@ -21,7 +21,7 @@ use Rattle.record.specs.Read.{bytesJudged, fixedJudged, afterWalk, optionalJudg
 use Rattle.entry.specs.Line.{markByte, withMark, withArrivals, openOf, letGoOf, filledOf, figuresOf}
 use Rattle.entry.specs.Stored.{lineAt, lineBytes, putLine, addLine, keyAt, keyIs, articleAt, articleIs, schoolAt, schoolIs, openAt, lineSound, slipKeyAt, slipIs, slipLineAt, slipCopiesAt, addSlip, slipSound}
 use Rattle.book.specs.Lent.{usedLines, usedSlips, lineRoom, slipRoom, roomSound, sound, findLine, findSlip, openCopies, roomsSound}
-use Rattle.book.specs.Booking.{refusedNumber, refusedPlace, keyFields, lineKey, articleFields, articleIn, schoolIn, slipKey, copiesIn, nothingToBook, noCopies, noReference, markIn, newLineJudged, orderJudged, slipJudged, arrivalJudged, goodsJudged, deliveryJudged, reportJudged, bookJudged, onRoster, fitJudged, newLine, lineAfter, lentAfter, refusedAs, doneAs, agreedAs, enteredAs, settled, bookAs, bookKind, bookRead, book}
+use Rattle.book.specs.Booking.{refusedNumber, refusedPlace, keyFields, lineKey, articleFields, articleIn, schoolIn, slipKey, copiesIn, nothingToBook, noCopies, noReference, markIn, newLineJudged, orderJudged, slipJudged, arrivalJudged, goodsJudged, deliveryJudged, reportJudged, bookJudged, onRoster, fitJudged, newLine, lineAfter, lentAfter, refusedAs, doneAs, agreedAt, agreedAs, enteredAs, settled, bookAs, bookKind, bookRead, book}
 use Rattle.book.specs.Cases.{roomy}
 use Rattle.save.specs.Entries.{goodsFields, fieldsKept, lineKept, partiesAgree, lineIndex, slipCopies, slipKept, isFirst, copiesOn, arrivedOn, linesKept, slipsKept, sumsKept, entriesKept}
 use Rattle.save.specs.Saved.{refusedNumber as saveNumber, joinedFrom, lineBodyAt, slipBodyAt, lineEntries, slipEntries, endEntry, savedForm, savedWidth, notSaved, save, statedLines, statedSlips, lineIn, slipIn, allOfKind, inForm, isSave}
@@ -44,5 +44,5 @@ pub record Computed : Type 0 where
   pub over : sumsKept 1 1001 (manySlips 1000) ≡ false
 
 pub computed : Computed
-unfolding all any run same among leAt leBytes belongs allOf ofClass padded named numberFrom leap monthDays realDay dayOf isDay checkValue weighted gs1 isbn seriesVolume article texts dayCount expected keeps layout total fixedWidth startOf kindOf firstBroken contents isIn ruleIn contentRule guardedIds guarded contentKept groups firstOf nextIn previousIn groupWith nextMember previousMember isWanted groupKept refusalNumber refusalPlace checkedOf _then_ headOf idIn idOf contentWidth contentOf fieldWidth afterField onHead atField walk judge fieldBytes bytesJudged fixedJudged afterWalk optionalJudged kindJudged judged markByte withMark withArrivals openOf letGoOf filledOf figuresOf lineAt lineBytes putLine addLine keyAt keyIs articleAt articleIs schoolAt schoolIs openAt lineSound slipKeyAt slipIs slipLineAt slipCopiesAt addSlip slipSound usedLines usedSlips lineRoom slipRoom roomSound firstFrom allFrom sumFrom sound rosterSound entries accountAt accountIs ceilingAt findAccount standingAt standing findLine findSlip openCopies refusedNumber refusedPlace joined keyFields lineKey articleFields articleIn schoolIn slipKey copiesIn nothingToBook noCopies noReference markIn newLineJudged orderJudged slipJudged arrivalJudged goodsJudged deliveryJudged reportJudged bookJudged onRoster fitJudged newLine lineAfter lentAfter refusedAs doneAs agreedAs enteredAs settled bookAs bookKind bookRead book goodsFields fieldsKept lineKept partiesAgree lineIndex slipCopies slipKept isFirst copiesOn arrivedOn linesKept slipsKept sumsKept entriesKept saveNumber joinedFrom lineBodyAt slipBodyAt lineEntries slipEntries endEntry savedForm savedWidth notSaved save statedLines statedSlips lineIn slipIn allOfKind inForm isSave roomsSound loadedLine lentLoaded notLoaded load loads byteLoads firstWrong daySaved
+unfolding all any run same among leAt leBytes belongs allOf ofClass padded named numberFrom leap monthDays realDay dayOf isDay checkValue weighted gs1 isbn seriesVolume article texts dayCount expected keeps layout total fixedWidth startOf kindOf firstBroken contents isIn ruleIn contentRule guardedIds guarded contentKept groups firstOf nextIn previousIn groupWith nextMember previousMember isWanted groupKept refusalNumber refusalPlace checkedOf _then_ headOf idIn idOf contentWidth contentOf fieldWidth afterField onHead atField walk judge fieldBytes bytesJudged fixedJudged afterWalk optionalJudged kindJudged judged markByte withMark withArrivals openOf letGoOf filledOf figuresOf lineAt lineBytes putLine addLine keyAt keyIs articleAt articleIs schoolAt schoolIs openAt lineSound slipKeyAt slipIs slipLineAt slipCopiesAt addSlip slipSound usedLines usedSlips lineRoom slipRoom roomSound firstFrom allFrom sumFrom sound rosterSound entries accountAt accountIs ceilingAt findAccount standingAt standing findLine findSlip openCopies refusedNumber refusedPlace joined keyFields lineKey articleFields articleIn schoolIn slipKey copiesIn nothingToBook noCopies noReference markIn newLineJudged orderJudged slipJudged arrivalJudged goodsJudged deliveryJudged reportJudged bookJudged onRoster fitJudged newLine lineAfter lentAfter refusedAs doneAs agreedAt agreedAs enteredAs settled bookAs bookKind bookRead book goodsFields fieldsKept lineKept partiesAgree lineIndex slipCopies slipKept isFirst copiesOn arrivedOn linesKept slipsKept sumsKept entriesKept saveNumber joinedFrom lineBodyAt slipBodyAt lineEntries slipEntries endEntry savedForm savedWidth notSaved save statedLines statedSlips lineIn slipIn allOfKind inForm isSave roomsSound loadedLine lentLoaded notLoaded load loads byteLoads firstWrong daySaved
 computed = record { loading = refl; ends = refl; saving = refl; saying = refl; small = refl; unsound = refl; back = refl; odd-room = refl; any-counts = refl; most = refl; over = refl }
