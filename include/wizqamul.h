@@ -63,7 +63,7 @@ extern "C" {
 #endif
 
 /* ---- Records --------------------------------------------------------------------------
- * A record is a fixed part, then up to 64 optional fields, then `*9999`; at most 1,024 bytes.
+ * A record is a fixed part, then up to 96 optional fields, then `*9999`; at most 1,024 bytes.
  * The CR LF that ends it in a file is not part of it. Allowed bytes are 32 to 126, 128, 130 to
  * 140, 142, 145 to 156 and 158 to 255: what Windows-1252 assigns, without control signs. A
  * blank is byte 32, a capital A to Z. In full: docs/RULES.md, sections 1 and 2.
@@ -147,7 +147,7 @@ extern "C" {
 #define WQ_DELIVERY_LENGTH 108   /* fixed part of an L101 */
 #define WQ_REPORT_LENGTH 79      /* fixed part of an M101 */
 #define WQ_MOST_RECORD 1024      /* most bytes in a record */
-#define WQ_MOST_FIELDS 64        /* most optional fields before *9999 */
+#define WQ_MOST_FIELDS 96        /* most optional fields before *9999 */
 #define WQ_FIELD_HEAD 5          /* a star and four digits; also the length of *9999 */
 #define WQ_END_ID 9999
 
@@ -157,7 +157,38 @@ extern "C" {
 #define WQ_TABLE_ID 0
 #define WQ_TABLE_PLACE 1
 #define WQ_TABLE_LENGTH 2
-#define WQ_FULL_TABLE (WQ_MOST_FIELDS * WQ_TABLE_NUMBERS)   /* 192 numbers */
+#define WQ_FULL_TABLE (WQ_MOST_FIELDS * WQ_TABLE_NUMBERS)   /* 288 numbers */
+
+/* ---- Parts ----------------------------------------------------------------------------
+ * An L101 with tax mark 6 is a bundle: a book with digital parts. Each part is a loop of ten
+ * optional fields, and the loops stand together after all other fields:
+ *   1019    1029 1030 1032 (net price)    1029 1030 1032 (list price)    1101 1102    1151
+ * The qualifier (1030) of the net price is NO, that of the list price LP or FP. Up to eight
+ * parts are read into entries of 68 bytes and written from them; a room's length is in bytes.
+ * Any other record has no parts, whatever fields it holds. A price is an amount in
+ * ten-thousandths of its currency and the number of digits that it is written with, so that
+ * writing gives its zeros in front again. */
+#define WQ_MOST_PARTS 8
+#define WQ_PART_FIELDS 10        /* optional fields of a part */
+#define WQ_PART_WIDTH 68         /* bytes of an entry */
+#define WQ_FULL_PARTS (WQ_MOST_PARTS * WQ_PART_WIDTH)   /* 544 bytes */
+#define WQ_PART_TAX 0            /* where each part of an entry starts; 1 byte: '0', '1' or '2' */
+#define WQ_PART_MEDIUM 1         /* 1 byte */
+#define WQ_PART_NET 2            /* a price, 14 bytes */
+#define WQ_PART_LIST 16          /* a price, 14 bytes */
+#define WQ_PART_ARTICLE_LENGTH 30   /* 1 byte: 1 to 35 */
+#define WQ_PART_ARTICLE 31       /* 35 bytes; behind its length zeros when read, anything when written */
+#define WQ_PART_ARTICLE_QUALIFIER 66   /* 2 bytes */
+#define WQ_PART_ARTICLE_WIDTH 35
+#define WQ_PHYSICAL 1            /* PHY: goods */
+#define WQ_DIGITAL 2             /* DIG: a digital service */
+#define WQ_PRICE_WIDTH 14        /* a price: where each part of it starts in it */
+#define WQ_PRICE_AMOUNT 0        /* 8 bytes, unsigned, lowest byte first */
+#define WQ_PRICE_DIGITS 8        /* 1 byte: 5 to 15 */
+#define WQ_PRICE_QUALIFIER 9     /* 2 bytes */
+#define WQ_PRICE_CURRENCY 11     /* 3 bytes */
+#define WQ_PRICE_AMOUNT_WIDTH 8
+#define WQ_CURRENCY_WIDTH 3
 
 /* ---- The roster -----------------------------------------------------------------------
  * The desk's own schools, each with a ceiling: the most copies that may be open for it. At
@@ -256,7 +287,7 @@ extern "C" {
 #define WQ_FIXED_FIELD 5       /* A fixed field breaks its rule; place: the field's start. */
 #define WQ_NO_STAR_OR_ID 6     /* No star, or no four digits after it; place: the star's. */
 #define WQ_END_MISPLACED 7     /* *9999 is not last (place: its star) or absent (length). */
-#define WQ_TOO_MANY_FIELDS 8   /* More than 64 optional fields; place: the 65th's star. */
+#define WQ_TOO_MANY_FIELDS 8   /* More than 96 optional fields; place: the 97th's star. */
 #define WQ_CONTENT 9           /* An optional field's content is wrong; place: its star. */
 #define WQ_GROUP 10            /* Fields that belong together are apart; place: the star. */
 #define WQ_QUANTITY_ZERO 11    /* An order or a delivery of no copies. */
@@ -274,10 +305,13 @@ extern "C" {
 #define WQ_TOO_SMALL 23        /* The lent output, table or book is too small. */
 #define WQ_NOT_ON_ROSTER 24    /* The school's account is not on the roster. */
 #define WQ_CEILING_PASSED 25   /* The order would bring the school above its ceiling. */
+#define WQ_PARTS_BROKEN 26     /* A bundle without parts, or parts that are not as they must be. */
+#define WQ_TOO_MANY_PARTS 27   /* More than eight parts. */
 
 /* ---- Results -------------------------------------------------------------------------- */
 typedef struct { uint64_t answer, place, fields; } wq_checked;
 typedef struct { uint64_t answer, place, length; } wq_written;
+typedef struct { uint64_t answer, place, parts; } wq_parts_read;
 typedef struct { uint64_t answer, place, ordered, filled, still_open, let_go, extra, agreed; } wq_booked;
 typedef struct { uint64_t answer, place, ordered, filled, still_open, let_go, extra; } wq_told;
 typedef struct { uint64_t answer, place, length; } wq_saved;
@@ -293,7 +327,7 @@ typedef struct {
 
 /* ---- Calls ---------------------------------------------------------------------------- */
 
-/* Reads one record. Needs a table of at least 192 numbers (WQ_FULL_TABLE), whatever the
+/* Reads one record. Needs a table of at least 288 numbers (WQ_FULL_TABLE), whatever the
  * record. Gives `fields`, the number of optional fields, and writes three numbers for each
  * of them; a place in the table counts from the record's start. The rest of the table and
  * the record never change. Refusals: 23, then 1 to 10. */
@@ -306,7 +340,7 @@ wq_checked wq_check(const uint8_t *record, size_t record_length, size_t *table, 
  * Refusals, in order, with their own places:
  *   5   a fixed field breaks its rule or holds a byte not allowed; place: the field's index
  *       from 0. An unknown kind, or a fixed part not of its kind's length, is 5 at 0.
- *   8   `fields` is over 64; place 64.
+ *   8   `fields` is over 96; place 96.
  *   23  the table has fewer than three numbers for each field; place 0.
  *   9   a content is wrong, holds a star or a byte not allowed, or lies outside `contents`,
  *       or the ID is 9999 or more; then 10, a group is broken; both are asked at each field
@@ -314,6 +348,32 @@ wq_checked wq_check(const uint8_t *record, size_t record_length, size_t *table, 
  *   1   the record would be over 1,024 bytes; place 0.
  *   23  `out` is too small; place 0. */
 wq_written wq_write(const uint8_t *fixed, size_t fixed_length, const size_t *table, size_t table_length, size_t fields, const uint8_t *contents, size_t contents_length, uint8_t *out, size_t out_length);
+
+/* Reads the parts of one record. Needs room for eight parts (WQ_FULL_PARTS bytes), whatever the
+ * record. Gives `parts`, the number of parts, and writes an entry for each of them from the
+ * front of the room on; the rest of the room and the record never change. A record that is no
+ * L101 with tax mark 6 has none. wq_check, wq_write and wq_book know nothing of parts.
+ * Refusals: 23, then 1 to 10 as wq_check has them; then for an L101 with tax mark 6
+ *   26  there is no field 1019, or what stands from the first 1019 to *9999 is not whole loops
+ *       and nothing else, or a first price's qualifier is not NO or a second's not LP or FP;
+ *   27  there are more than eight loops. */
+wq_parts_read wq_parts(const uint8_t *record, size_t record_length, uint8_t *parts, size_t parts_length);
+
+/* Writes one record as wq_write does, with the ten fields of each of `count` parts after the
+ * fields of the table. What it writes, wq_parts reads: the same parts. 1,024 bytes of `out` are
+ * always enough. Refusals, in order:
+ *   27  `count` is over 8; place 0.
+ *   23  the room holds fewer than `count` parts; place 0.
+ *   26  there are parts, but the fixed part is not that of an L101 with tax mark 6 (it begins
+ *       with L101 and has `6` at 107); or it is, and there are none, or one of the table's
+ *       entries (of those that are whole in it, and of the first `fields`) has ID 1019; or a
+ *       net price's qualifier is not NO, or a list price's not LP or FP; place 0.
+ *   then 5, 8, 23, 9 and 10, 1, 23 as wq_write has them, over all fields: those of the table
+ *   first, then those of the parts, ten each. 8 where they are more than 96 together. A part's
+ *   value that cannot be written (a number of digits that is not 5 to 15 or too small for its
+ *   amount, an article of no or more than 35 bytes, a medium that is neither, any other value
+ *   that breaks the rule of its field) is 9 at that field's index among all fields. */
+wq_written wq_write_parts(const uint8_t *fixed, size_t fixed_length, const size_t *table, size_t table_length, size_t fields, const uint8_t *contents, size_t contents_length, const uint8_t *parts, size_t parts_length, size_t count, uint8_t *out, size_t out_length);
 
 /* Books one record for a school of the roster and gives its line's figures. An order adds a
  * line and 1 to used[0]; a delivery adds a slip and 1 to used[1], and adds its copies to its
