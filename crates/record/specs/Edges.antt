@@ -208,22 +208,22 @@ walkEdges =
     ∷ row reads (with "*800199999999" X) 0 0
     ∷ row reads (take 67 X ++ bytes "*80019999") 7 76
     ∷ row reads (with "*0000" X) 0 0  -- an ID like any other
-    ∷ row reads (withBytes (times 64 (bytes "*9007123")) X) 0 0
-    ∷ row reads (withBytes (times 65 (bytes "*9007123")) X) 8 579
-    ∷ row reads (withBytes (times 65 (bytes "*9007123") ++ bytes "*12") X) 8 579  -- whatever follows
-    ∷ row reads (withBytes (times 64 (bytes "*9007123") ++ bytes "*12") X) 6 579
-    ∷ row reads (withBytes (times 64 (bytes "*9007123")) X ++ bytes "1") 7 579
+    ∷ row reads (withBytes (times 96 (bytes "*9007123")) X) 0 0
+    ∷ row reads (withBytes (times 97 (bytes "*9007123")) X) 8 835
+    ∷ row reads (withBytes (times 97 (bytes "*9007123") ++ bytes "*12") X) 8 835  -- whatever follows
+    ∷ row reads (withBytes (times 96 (bytes "*9007123") ++ bytes "*12") X) 6 835
+    ∷ row reads (withBytes (times 96 (bytes "*9007123")) X ++ bytes "1") 7 835
     ∷ []
 
--- what stands in the table after a check: a record with two fields and a table with room for 64 and one number more; the same table, one number too short
+-- what stands in the table after a check: a record with two fields and a table with room for 96 and one number more; the same table, one number too short
 unfoldable pub titled : List ℕ
 titled = with "*1017Title*1018KL" X
 
 unfoldable pub fullTable : List ℕ
-fullTable = replicate 193 7
+fullTable = replicate 289 7
 
 unfoldable pub shortTable : List ℕ
-shortTable = replicate 191 7
+shortTable = replicate 287 7
 
 -- 9 at each listed content
 unfoldable pub contentEdges : List Row

@@ -23,7 +23,7 @@ mostBytes = 1024
 
 -- the most optional fields of a record
 abbrev pub mostFields : ℕ
-mostFields = 64
+mostFields = 96
 
 -- a fixed field: its length and its rule
 infix 70 _∶_

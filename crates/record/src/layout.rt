@@ -25,7 +25,7 @@ use rules::rule::keeps_rule;
 // A record is at most this long without its line end.
 pub const MOST_BYTES: usize = 1024;
 // With at most this many optional fields before *9999.
-pub const MOST_FIELDS: usize = 64;
+pub const MOST_FIELDS: usize = 96;
 
 pub const KIND_WIDTH: usize = 4;
 

@@ -41,8 +41,8 @@ pub record Computed : Type 0 where
   pub z : MakesText zParts Z
   pub closing : MakesText closingParts C
   pub title : MakesText (ordering titled) (with "*1017Title*1018KL" X)
-  -- 64 fields and 1,024 bytes still make one
-  pub all-fields : MakesRecord (ordering (shortFields 64))
+  -- 96 fields and 1,024 bytes still make one
+  pub all-fields : MakesRecord (ordering (shortFields 96))
   pub all-bytes : MakesRecord (ordering (letters 947))
   -- so does a title with quotes and a dash
   pub marks : MakesRecord (ordering marked)
@@ -58,8 +58,8 @@ pub record Computed : Type 0 where
   pub empty : None (ordering (field 1003 "" ∷ []))
   pub group : None (ordering (field 1017 "Title" ∷ []))
   pub split-group : None (ordering (field 1017 "Title" ∷ field 8888 "" ∷ field 1018 "KL" ∷ []))
-  -- 65 fields are too many, 1,025 bytes too long, and bytes 127 and 129 are not allowed
-  pub many : None (ordering (shortFields 65))
+  -- 97 fields are too many, 1,025 bytes too long, and bytes 127 and 129 are not allowed
+  pub many : None (ordering (shortFields 97))
   pub long : None (ordering (letters 948))
   pub byte : None (fixedOnly (orderFields (bytes "A-17" ++ (127 ∷ bytes "     ")) "9783442756841"))
   pub unassigned : None (fixedOnly (orderFields (bytes "A-17" ++ (129 ∷ bytes "     ")) "9783442756841"))
@@ -85,7 +85,7 @@ computed = record {
   z = record { makes = makes zParts refl refl refl refl refl refl; text = refl };
   closing = record { makes = makes closingParts refl refl refl refl refl refl; text = refl };
   title = record { makes = makes (ordering titled) refl refl refl refl refl refl; text = refl };
-  all-fields = makes (ordering (shortFields 64)) refl refl refl refl refl refl;
+  all-fields = makes (ordering (shortFields 96)) refl refl refl refl refl refl;
   all-bytes = makes (ordering (letters 947)) refl refl refl refl refl refl;
   marks = makes (ordering marked) refl refl refl refl refl refl;
   other-kind = λ m. let e = m .named in let z : _≡_ {A = ℕ} 0 1 = cc in omega arith;

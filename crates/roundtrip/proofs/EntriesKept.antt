@@ -1,20 +1,18 @@
 -- Entries that writing accepts are those that name, inside the lent contents, optional fields that are kept, of bytes that are allowed.
-use mathlib.Core.Path.{_≡_, ap, refl}
+use mathlib.Core.Path.{_≡_, refl}
 use mathlib.Core.Bool.{true, _&&_}
 use mathlib.Core.List.{List, [], _∷_}
-use Prim.Native.Nat.{ℕ, zero, suc, _+_}
+use Prim.Native.Nat.{ℕ, _+_}
 use borrow.Author.Tests.{lt-ltb}
 use lib.Dec.{ltb}
-use lib.ListN.{length, drop}
 use Rattle.cells.specs.Bytes.{all}
 use Rattle.cells.proofs.Bools.{and-left, and-right}
 use Rattle.rules.specs.Class.{allowed, belongs}
 use Rattle.rules.specs.declared.class.Class.the-variants.{Allowed}
 use Rattle.record.specs.Contents.{contentKept, groupKept}
 use Rattle.record.specs.Fields.{lastId, notStar}
-use Rattle.record.specs.Read.{entryWidth}
 use Rattle.record.specs.declared.layout.Kind.{Kind}
-use Rattle.writing.specs.Write.{contentByte, contentIn, optionalIn, optionalOf, entries, inside, writable, nextId, entryKept, fieldsJudged}
+use Rattle.writing.specs.Write.{contentByte, contentIn, optionalIn, optionalOf, inside, writable, nextId, entryKept, fieldsJudged}
 use Rattle.writing.specs.Widths.{allInside}
 use Rattle.writing.specs.declared.answer.Refusal.the-variants.{Content, Group}
 use Rattle.writing.specs.declared.answer.Verdict.the-variants.{Fits}
@@ -24,18 +22,6 @@ use Rattle.roundtrip.specs.Record.{idAfter, optionalKept}
 use Rattle.roundtrip.proofs.Sequences.{all-and}
 use Rattle.roundtrip.proofs.Texts.{contentsAllowed}
 use Rattle.roundtrip.proofs.OptionalKept.{first-kept}
-
--- a table's first n entries are n
-pub entries-length : (n : ℕ) (table : List ℕ) → length (entries n table) ≡ n
-unfolding entries
-entries-length zero table = refl
-entries-length (suc n) table = ap suc (entries-length n (drop entryWidth table))
-
--- and name a field each
-pub fields-length : (contents : List ℕ) (es : List Entry) → length (optionalOf contents es) ≡ length es
-unfolding optionalOf
-fields-length contents [] = refl
-fields-length contents (e ∷ es) = ap suc (fields-length contents es)
 
 -- entries of a record of a kind, with the lent contents
 module _ (k : Kind) (contents : List ℕ) where

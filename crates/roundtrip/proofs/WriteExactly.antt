@@ -27,7 +27,8 @@ use Rattle.roundtrip.specs.Record.{CanWrite}
 use Rattle.roundtrip.specs.Demand2.{writeCall, WriteExactly}
 use Rattle.roundtrip.proofs.Texts.{contentsAllowed, text-allowed}
 use Rattle.roundtrip.proofs.Fixed.{faultless-kept, faultless-allowed, faultless}
-use Rattle.roundtrip.proofs.EntriesKept.{entries-length, fields-length, accepted-kept, accepted-allowed, kept-accepted}
+use Rattle.writing.proofs.Halves.{entries-length, fields-length}
+use Rattle.roundtrip.proofs.EntriesKept.{accepted-kept, accepted-allowed, kept-accepted}
 use Rattle.roundtrip.proofs.Whole.{Whole, made-whole, whole-made}
 
 -- a refusal has no answer 0

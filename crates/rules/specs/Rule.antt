@@ -10,7 +10,7 @@ use Rattle.rules.specs.Day.{isDay, dayWidth}
 use Rattle.rules.specs.Article.{article}
 use Rattle.rules.specs.declared.class.Class.the-variants.{Digit, Blank, Zero}
 use Rattle.rules.specs.declared.rule.Texts.{Texts}
-use Rattle.rules.specs.declared.rule.Texts.the-variants.{Party, Numbering, Measure, HoldMark, TaxMark, PartTax, YesOnly, YesOrU, Medium}
+use Rattle.rules.specs.declared.rule.Texts.the-variants.{Party, Numbering, Measure, HoldMark, TaxMark, PartTax, YesOnly, YesOrU, Medium, NetPrice, ListPrice}
 use Rattle.rules.specs.declared.rule.Rule.{Rule}
 use Rattle.rules.specs.declared.rule.Rule.the-variants.{Free, Of, Padded, Named, OneOf, DayCount, Date, ExpectedDate, Article}
 
@@ -30,6 +30,8 @@ texts PartTax = bytes "0" ∷ bytes "1" ∷ bytes "2" ∷ []
 texts YesOnly = bytes "J" ∷ []
 texts YesOrU = bytes "J" ∷ bytes "U" ∷ []
 texts Medium = bytes "PHY" ∷ bytes "DIG" ∷ []
+texts NetPrice = bytes "NO" ∷ []
+texts ListPrice = bytes "LP" ∷ bytes "FP" ∷ []
 
 -- a number of days, as ID 1203 has it
 unfoldable pub dayCount : List ℕ → Bool

@@ -29,6 +29,8 @@ pub enum Texts {
     YesOnly,
     YesOrU,
     Medium,
+    NetPrice,
+    ListPrice,
 }
 
 pub enum Rule {
@@ -80,6 +82,8 @@ pub fn is_one_of(t: Texts, s: &[u8]) -> bool
         Texts::YesOnly => is_in_row(s, b"J", 1, 1),
         Texts::YesOrU => is_in_row(s, b"JU", 1, 2),
         Texts::Medium => is_in_row(s, b"PHYDIG", 3, 2),
+        Texts::NetPrice => is_in_row(s, b"NO", 2, 1),
+        Texts::ListPrice => is_in_row(s, b"LPFP", 2, 2),
     }
 }
 

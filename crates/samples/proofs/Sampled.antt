@@ -44,7 +44,7 @@ pub record Computed : Type 0 where
   pub groups : firstWrong readSays 1 groupEdges ≡ 0
   -- the table: ID, place and length of each content; what is behind them stays
   pub listed : check titled fullTable
-      ≡ outcome (record { answer = 0; place = 0; fields = 2 }) ((1017 ∷ 72 ∷ 5 ∷ 1018 ∷ 82 ∷ 2 ∷ []) ++ replicate 187 7)
+      ≡ outcome (record { answer = 0; place = 0; fields = 2 }) ((1017 ∷ 72 ∷ 5 ∷ 1018 ∷ 82 ∷ 2 ∷ []) ++ replicate 283 7)
   pub untouched : check (take 71 X) fullTable ≡ outcome (record { answer = 3; place = 71; fields = 0 }) fullTable
   pub short : check titled shortTable ≡ outcome (record { answer = 23; place = 0; fields = 0 }) shortTable
   pub fields : optionalFields 2 titled ≡ record { id = 1017; content = bytes "Title" } ∷ record { id = 1018; content = bytes "KL" } ∷ []

@@ -51,7 +51,7 @@ fn judge_rest(fixed: &[u8], table: &[usize], count: usize, contents: &[u8], out:
 }
 
 // 1, then 23, of a record of a length.
-fn judge_length(n: usize, out: &[u8]) -> Verdict
+pub fn judge_length(n: usize, out: &[u8]) -> Verdict
     ensures { λ r. ⌜ r ≡ lengthJudged n (now (out .entry)) ⌝ }
 {
     if MOST_BYTES < n {

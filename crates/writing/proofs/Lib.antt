@@ -6,4 +6,5 @@ pub mod Holding
 pub mod Records
 pub mod Stages
 pub mod Tables
+pub mod Halves
 pub mod Widths

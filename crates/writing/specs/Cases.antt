@@ -77,9 +77,9 @@ writeCases =
     ∷ refused (put 65 "XX" FX) [] 0 [] 72 5 10
     ∷ refused (put 28 "00000000" (take 108 Y)) [] 0 [] 200 5 6
     ∷ refused (put 75 "0001" (take 79 Z)) [] 0 [] 84 5 12
-    ∷ refused (put 65 "XX" FX) [] 65 [] 0 5 10  -- 5 before all others
+    ∷ refused (put 65 "XX" FX) [] 97 [] 0 5 10  -- 5 before all others
     -- 8, then 23 for the table
-    ∷ refused FX [] 65 [] 0 8 64
+    ∷ refused FX [] 97 [] 0 8 96
     ∷ refused FX (replicate 5 1017) 2 K 0 23 0
     ∷ refused FX [] 1 K 100 23 0
     -- 9 and 10 per field

@@ -135,7 +135,7 @@ pub fn judge_fields(k: Kind, table: &[usize], count: usize, contents: &[u8]) -> 
 
 // How long the record becomes, or one more than the most where it is too long.
 pub fn record_width(fixed: usize, table: &[usize], count: usize) -> usize
-    requires { ⌜ (fixed ≤ 108) × (count ≤ mostFields) × (count * entryWidth ≤ length (now table)) ⌝ }
+    requires { ⌜ (fixed ≤ mostBytes) × (count ≤ mostFields) × (count * entryWidth ≤ length (now table)) ⌝ }
     ensures { λ r. ⌜ r ≡ capped mostBytes (widthAfter fixed (entries count (now (table .entry)))) ⌝ }
 {
     let mut n = fixed;

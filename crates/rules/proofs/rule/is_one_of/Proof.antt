@@ -85,6 +85,24 @@ slice-aggregate-is-in-row-9 c = search needs
 is-in-row-requires-9 : tie.Need-is-in-row-requires-9
 is-in-row-requires-9 c κs = search needs
 
+enum-told-10 : tie.Need-enum-told-10
+enum-told-10 c = search needs
+
+slice-aggregate-is-in-row-10 : tie.Need-slice-aggregate-is-in-row-10
+slice-aggregate-is-in-row-10 c = search needs
+
+is-in-row-requires-10 : tie.Need-is-in-row-requires-10
+is-in-row-requires-10 c κs = search needs
+
+enum-told-11 : tie.Need-enum-told-11
+enum-told-11 c = search needs
+
+slice-aggregate-is-in-row-11 : tie.Need-slice-aggregate-is-in-row-11
+slice-aggregate-is-in-row-11 c = search needs
+
+is-in-row-requires-11 : tie.Need-is-in-row-requires-11
+is-in-row-requires-11 c κs = search needs
+
 returns : tie.Need-returns
 unfolding rowTexts texts
 returns c = rw (c .before .before .enum-told .given .1) (c .is-in-row .ensures)
@@ -121,6 +139,14 @@ returns-9 : tie.Need-returns-9
 unfolding rowTexts texts
 returns-9 c = rw (c .before .before .enum-told9 .given .1) (c .is-in-row9 .ensures)
 
+returns-10 : tie.Need-returns-10
+unfolding rowTexts texts
+returns-10 c = rw (c .before .before .enum-told10 .given .1) (c .is-in-row10 .ensures)
+
+returns-11 : tie.Need-returns-11
+unfolding rowTexts texts
+returns-11 c = rw (c .before .before .enum-told11 .given .1) (c .is-in-row11 .ensures)
+
 pub is-one-of-spec : {M : Type 1} → statement M
 is-one-of-spec =
     tie.close
@@ -152,6 +178,12 @@ is-one-of-spec =
     enum-told-9
     slice-aggregate-is-in-row-9
     is-in-row-requires-9
+    enum-told-10
+    slice-aggregate-is-in-row-10
+    is-in-row-requires-10
+    enum-told-11
+    slice-aggregate-is-in-row-11
+    is-in-row-requires-11
     returns
     returns-2
     returns-3
@@ -160,4 +192,6 @@ is-one-of-spec =
     returns-6
     returns-7
     returns-8
-    returns-9)
+    returns-9
+    returns-10
+    returns-11)

@@ -1,0 +1,7 @@
+pub mod Loops
+pub mod Part
+pub mod Fields
+pub mod Answers
+pub mod Read
+pub mod Write
+pub mod Entries
