@@ -3,5 +3,5 @@ pub mod Part
 pub mod Fields
 pub mod Answers
 pub mod Read
-pub mod Write
 pub mod Entries
+pub mod Write

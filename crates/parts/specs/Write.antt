@@ -7,8 +7,9 @@ use lib.ListN.{length, drop, getD}
 use Rattle.cells.specs.Bytes.{pick}
 use Rattle.record.specs.Fields.{Optional}
 use Rattle.record.specs.Read.{entryWidth}
-use Rattle.writing.specs.Write.{entries, optionalOf, Outcome, outcome, write}
-use Rattle.parts.specs.Loops.{isBundle, mostParts, areLoops, othersIn}
+use Rattle.writing.specs.Write.{entries, Outcome, outcome, write}
+use Rattle.parts.specs.Loops.{isBundle, mostParts, areLoops}
+use Rattle.parts.specs.Entries.{othersAmong}
 use Rattle.parts.specs.Part.{partWidth}
 use Rattle.parts.specs.Fields.{lentFields}
 use Rattle.parts.specs.Answers.{notWritten}
@@ -40,23 +41,24 @@ writeWith more fixed table count contents out =
     write fixed (moved (length (contentsOf more)) (entriesThere count table) table ++ listed 0 more) (count + length more)
     (contentsOf more ++ contents) out
 
--- a field of the table begins a loop
-unfoldable pub hasLoop : List ℕ → ℕ → List ℕ → Bool
-hasLoop table count contents =
-    ltb (othersIn (optionalOf contents (entries (entriesThere count table) table))) (entriesThere count table)
+-- an entry of the table begins a loop
+unfoldable pub hasLoop : List ℕ → ℕ → Bool
+hasLoop table count = ltb (othersAmong (entries (entriesThere count table) table)) (entriesThere count table)
 
--- 26: parts and no bundle; a bundle and no parts, or a loop begun in the table; a loop with another qualifier than it asks for
-unfoldable pub isBroken : List ℕ → List ℕ → ℕ → List ℕ → List ℕ → ℕ → Bool
-isBroken fixed table count contents parts n =
-    pick (isBundle fixed) (eqb n 0 || hasLoop table count contents) (ltb 0 n)
-    || not (areLoops n (lentFields n parts 0))
+-- 26: parts and no bundle; a bundle and no parts, or a loop begun in the table
+unfoldable pub isMisplaced : List ℕ → List ℕ → ℕ → ℕ → Bool
+isMisplaced fixed table count n = pick (isBundle fixed) (eqb n 0 || hasLoop table count) (ltb 0 n)
+
+-- or a loop with another qualifier than it asks for
+unfoldable pub isBroken : List ℕ → List ℕ → ℕ → List ℕ → ℕ → Bool
+isBroken fixed table count parts n = isMisplaced fixed table count n || not (areLoops n (lentFields n parts 0))
 
 -- 27, 23, 26
-unfoldable pub partsRefused : List ℕ → List ℕ → ℕ → List ℕ → List ℕ → ℕ → Verdict
-partsRefused fixed table count contents parts n =
+unfoldable pub partsRefused : List ℕ → List ℕ → ℕ → List ℕ → ℕ → Verdict
+partsRefused fixed table count parts n =
     pick (ltb mostParts n) (Refused TooMany)
     (pick (ltb (length parts) (n * partWidth)) (Refused SmallRoom)
-    (pick (isBroken fixed table count contents parts n) (Refused Broken)
+    (pick (isBroken fixed table count parts n) (Refused Broken)
     (Fits n)))
 
 -- then the rest over all fields
@@ -66,4 +68,4 @@ writtenWith (Fits n) fixed table count contents parts out = writeWith (lentField
 
 unfoldable pub writeParts : List ℕ → List ℕ → ℕ → List ℕ → List ℕ → ℕ → List ℕ → Outcome
 writeParts fixed table count contents parts n out =
-    writtenWith (partsRefused fixed table count contents parts n) fixed table count contents parts out
+    writtenWith (partsRefused fixed table count parts n) fixed table count contents parts out
