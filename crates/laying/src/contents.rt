@@ -143,14 +143,15 @@ fn lay_part(p: Part, named: bool) -> [u8; 81]
     let article = p.article;
     let text = article_text(article);
     let qualifier = article.qualifier;
-    let medium = medium_text(named, p.medium);
+    let medium = p.medium;
+    let name = medium_text(named, medium);
     let mut out = [0u8; 81];
     put_byte(&mut out, 0, p.tax);
     lay_price(&mut out, NET, net);
     lay_price(&mut out, LIST, list);
     paste_at(&mut out, ARTICLE, &text);
     paste_at(&mut out, ARTICLE_QUALIFIER, &qualifier);
-    paste_at(&mut out, MEDIUM, &medium);
+    paste_at(&mut out, MEDIUM, &name);
     out
 }
 

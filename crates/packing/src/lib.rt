@@ -1,41 +1,25 @@
 // Writing a record with parts: the public call, over what writing is lent and a room with parts.
+pub mod whole;
+
 ghost use mathlib.Core.Path.{_≡_};
-ghost use mathlib.Core.Bool.{true};
-ghost use mathlib.Core.List.{_++_};
-ghost use Prim.Native.Nat.{_+_, _*_, _≤_};
-ghost use lib.ListN.{length};
-ghost use lib.Seq.{sets};
-ghost use Rattle.record.specs.Layout.{mostFields};
-ghost use Rattle.record.specs.Read.{entryWidth};
-ghost use Rattle.writing.specs.Widths.{allInside, widthAfter};
-ghost use Rattle.writing.specs.Write.{entries, optionalOf, recordText, outcome, lengthJudged};
-ghost use Rattle.parts.specs.Loops.{loopFields, mostParts, areLoops};
-ghost use Rattle.parts.specs.Write.{entriesThere, hasLoop, isMisplaced, writeWith, writeParts};
-ghost use Rattle.packing.specs.Judged.{restWith, judgedWith};
+ghost use Rattle.writing.specs.Write.{outcome};
+ghost use Rattle.parts.specs.Write.{entriesThere, hasLoop, isMisplaced, writeParts};
+use crate::whole::write_with;
 use laying::contents::lay_parts;
+use parts::answer::Refusal;
 use parts::answer::not_written;
 use parts::entry::PART_WIDTH;
-use parts::loops::LOOP_FIELDS;
 use parts::loops::MOST_PARTS;
 use parts::loops::are_loops;
 use parts::loops::is_bundle;
 use parts::loops::others_among;
 use record::fields::ENTRY_WIDTH;
-use record::fields::HEAD_WIDTH;
-use record::layout::Kind;
-use record::layout::Kinded;
-use record::layout::MOST_BYTES;
-use record::layout::MOST_FIELDS;
-use record::layout::kind_of;
-use writer::judge_length;
-use writer::output::put_record;
-use writing::answer::Refusal;
-use writing::answer::Verdict;
 use writing::answer::Written;
-use writing::answer::written_of;
-use writing::entries::judge_fields;
-use writing::entries::record_width;
-use writing::fixed::judge_fixed;
+
+// The bytes of the contents of eight parts, and the numbers of their entries.
+const ALL_LAID: usize = 648;
+
+const ALL_LISTED: usize = 240;
 
 // How many entries of a table are there, of so many.
 fn entries_there(table: &[usize], count: usize) -> usize
@@ -66,132 +50,6 @@ fn is_misplaced(fixed: &[u8], table: &[usize], fields: usize, n: usize) -> bool
     has_loop(table, fields)
 }
 
-// 1, then 23, of a record whose fields are those of a table and then those of the parts' table.
-fn judge_whole(
-    width: usize,
-    table: &[usize],
-    fields: usize,
-    listed: &[usize],
-    more: usize,
-    out: &[u8],
-) -> Verdict
-    requires { ⌜ (width ≤ 108) × (fields ≤ mostFields) × (fields * entryWidth ≤ length (now table)) × (more ≤ mostFields) × (more * entryWidth ≤ length (now listed)) ⌝ }
-    ensures { λ r. ⌜ r ≡ lengthJudged (widthAfter width (entries fields (now (table .entry)) ++ entries more (now (listed .entry)))) (now (out .entry)) ⌝ }
-{
-    let body = record_width(width, table, fields);
-    if MOST_BYTES < body {
-        return Verdict::Refused(Refusal::TooLong);
-    }
-    judge_length(record_width(body - HEAD_WIDTH, listed, more), out)
-}
-
-// 8, 23, 9 and 10, 1, 23 over all fields, of a record whose fixed part keeps its rules.
-fn judge_rest(
-    k: Kind,
-    fixed: &[u8],
-    table: &[usize],
-    fields: usize,
-    contents: &[u8],
-    listed: &[usize],
-    n: usize,
-    texts: &[u8],
-    out: &[u8],
-) -> Verdict
-    requires { ⌜ (length (now fixed) ≤ 108) × (n ≤ mostParts) × (n * loopFields * entryWidth ≤ length (now listed)) × (allInside (now texts) (entries (n * loopFields) (now listed)) ≡ true) × (areLoops n (optionalOf (now texts) (entries (n * loopFields) (now listed))) ≡ true) ⌝ }
-    ensures { λ r. ⌜ r ≡ restWith (optionalOf (now (texts .entry)) (entries (n * loopFields) (now (listed .entry)))) k (now (fixed .entry)) (now (table .entry)) fields (now (contents .entry)) (now (out .entry)) ⌝ }
-{
-    let more = n * LOOP_FIELDS;
-    if MOST_FIELDS - more < fields {
-        return Verdict::Refused(Refusal::TooManyFields);
-    }
-    if table.len() < fields * ENTRY_WIDTH {
-        return Verdict::Refused(Refusal::SmallTable);
-    }
-    match judge_fields(k, 0, table, fields, contents) {
-        Verdict::Refused(r) => Verdict::Refused(r),
-        Verdict::Fits(_) => match judge_fields(k, fields, listed, more, texts) {
-            Verdict::Refused(r) => Verdict::Refused(r),
-            Verdict::Fits(_) => judge_whole(fixed.len(), table, fields, listed, more, out),
-        },
-    }
-}
-
-// The first refusal of writing the table's fields and then the parts', or the length of the record.
-fn judge_with(
-    fixed: &[u8],
-    table: &[usize],
-    fields: usize,
-    contents: &[u8],
-    listed: &[usize],
-    n: usize,
-    texts: &[u8],
-    out: &[u8],
-) -> Verdict
-    requires { ⌜ (n ≤ mostParts) × (n * loopFields * entryWidth ≤ length (now listed)) × (allInside (now texts) (entries (n * loopFields) (now listed)) ≡ true) × (areLoops n (optionalOf (now texts) (entries (n * loopFields) (now listed))) ≡ true) ⌝ }
-    ensures { λ r. ⌜ r ≡ judgedWith (optionalOf (now (texts .entry)) (entries (n * loopFields) (now (listed .entry)))) (now (fixed .entry)) (now (table .entry)) fields (now (contents .entry)) (now (out .entry)) ⌝ }
-{
-    match judge_fixed(fixed) {
-        Verdict::Refused(r) => Verdict::Refused(r),
-        Verdict::Fits(_) => match kind_of(fixed) {
-            Kinded::Unknown => Verdict::Refused(Refusal::FixedField(0)),
-            Kinded::Known(k) => {
-                judge_rest(k, fixed, table, fields, contents, listed, n, texts, out)
-            }
-        },
-    }
-}
-
-// The whole record from the front of the output on: the parts' fields stand where the table's would end.
-fn put_with(
-    out: &mut [u8],
-    fixed: &[u8],
-    table: &[usize],
-    fields: usize,
-    contents: &[u8],
-    listed: &[usize],
-    more: usize,
-    texts: &[u8],
-)
-    requires { ⌜ (length (now fixed) ≤ 108) × (fields ≤ mostFields) × (fields * entryWidth ≤ length (now table)) × (allInside (now contents) (entries fields (now table)) ≡ true) × (more ≤ mostFields) × (more * entryWidth ≤ length (now listed)) × (allInside (now texts) (entries more (now listed)) ≡ true) × (widthAfter (length (now fixed)) (entries fields (now table) ++ entries more (now listed)) ≤ 1024) × (widthAfter (length (now fixed)) (entries fields (now table) ++ entries more (now listed)) ≤ length (now out)) ⌝ }
-    ensures { λ _. ⌜ now (out .exit) ≡ sets (now (out .entry)) 0 (recordText (now (fixed .entry)) (optionalOf (now (contents .entry)) (entries fields (now (table .entry))) ++ optionalOf (now (texts .entry)) (entries more (now (listed .entry))))) ⌝ }
-{
-    put_record(out, fixed, table, fields, contents);
-    let at = record_width(fixed.len(), table, fields) - HEAD_WIDTH;
-    put_record(&mut out[at..], b"", listed, more, texts);
-}
-
-// Writes the table's fields and then the parts', or refuses and changes nothing.
-fn write_with(
-    fixed: &[u8],
-    table: &[usize],
-    fields: usize,
-    contents: &[u8],
-    listed: &[usize],
-    n: usize,
-    texts: &[u8],
-    out: &mut [u8],
-) -> Written
-    requires { ⌜ (n ≤ mostParts) × (n * loopFields * entryWidth ≤ length (now listed)) × (allInside (now texts) (entries (n * loopFields) (now listed)) ≡ true) × (areLoops n (optionalOf (now texts) (entries (n * loopFields) (now listed))) ≡ true) ⌝ }
-    ensures { λ r. ⌜ outcome r (now (out .exit)) ≡ writeWith (optionalOf (now (texts .entry)) (entries (n * loopFields) (now (listed .entry)))) (now (fixed .entry)) (now (table .entry)) fields (now (contents .entry)) (now (out .entry)) ⌝ }
-{
-    match judge_with(fixed, table, fields, contents, listed, n, texts, out) {
-        Verdict::Refused(r) => written_of(Verdict::Refused(r)),
-        Verdict::Fits(length) => {
-            put_with(
-                out,
-                fixed,
-                table,
-                fields,
-                contents,
-                listed,
-                n * LOOP_FIELDS,
-                texts,
-            );
-            written_of(Verdict::Fits(length))
-        }
-    }
-}
-
 // Writes a record with n parts at the front of the output, or refuses and changes nothing.
 pub fn write_parts(
     fixed: &[u8],
@@ -205,19 +63,19 @@ pub fn write_parts(
     ensures { λ r. ⌜ outcome r (now (out .exit)) ≡ writeParts (now (fixed .entry)) (now (table .entry)) fields (now (contents .entry)) (now (room .entry)) n (now (out .entry)) ⌝ }
 {
     if MOST_PARTS < n {
-        return not_written(parts::answer::Refusal::TooMany);
+        return not_written(Refusal::TooMany);
     }
     if room.len() < n * PART_WIDTH {
-        return not_written(parts::answer::Refusal::SmallRoom);
+        return not_written(Refusal::SmallRoom);
     }
     if is_misplaced(fixed, table, fields, n) {
-        return not_written(parts::answer::Refusal::Broken);
+        return not_written(Refusal::Broken);
     }
-    let mut texts = [0u8; 648];
-    let mut listed = [0usize; 240];
+    let mut texts = [0u8; ALL_LAID];
+    let mut listed = [0usize; ALL_LISTED];
     lay_parts(room, n, &mut texts, &mut listed);
     if !are_loops(&texts, &listed, 0, n) {
-        return not_written(parts::answer::Refusal::Broken);
+        return not_written(Refusal::Broken);
     }
     write_with(fixed, table, fields, contents, &listed, n, &texts, out)
 }

@@ -1,0 +1,157 @@
+// A record whose fields are those of a table and then those of parts, judged over all of them and written.
+ghost use mathlib.Core.Path.{_≡_};
+ghost use mathlib.Core.Bool.{true};
+ghost use mathlib.Core.List.{_++_};
+ghost use Prim.Native.Nat.{_+_, _*_, _≤_};
+ghost use lib.ListN.{length};
+ghost use lib.Seq.{sets};
+ghost use Rattle.record.specs.Layout.{mostBytes, mostFields};
+ghost use Rattle.record.specs.Read.{entryWidth};
+ghost use Rattle.writing.specs.Widths.{allInside, widthAfter};
+ghost use Rattle.writing.specs.Write.{entries, optionalOf, recordText, outcome, lengthJudged};
+ghost use Rattle.parts.specs.Loops.{loopFields, mostParts, areLoops};
+ghost use Rattle.parts.specs.Write.{writeWith};
+ghost use Rattle.packing.specs.Judged.{restWith, judgedWith};
+use parts::loops::LOOP_FIELDS;
+use record::fields::ENTRY_WIDTH;
+use record::fields::HEAD_WIDTH;
+use record::layout::Kind;
+use record::layout::Kinded;
+use record::layout::MOST_BYTES;
+use record::layout::MOST_FIELDS;
+use record::layout::kind_of;
+use writer::judge_length;
+use writer::output::put_record;
+use writing::answer::Refusal;
+use writing::answer::Verdict;
+use writing::answer::Written;
+use writing::answer::written_of;
+use writing::entries::judge_fields;
+use writing::entries::record_width;
+use writing::fixed::judge_fixed;
+
+// 1, then 23, of a record whose fields are those of a table and then those of the parts' table.
+fn judge_whole(
+    width: usize,
+    table: &[usize],
+    fields: usize,
+    listed: &[usize],
+    more: usize,
+    out: &[u8],
+) -> Verdict
+    requires { ⌜ (width ≤ 108) × (fields ≤ mostFields) × (fields * entryWidth ≤ length (now table)) × (more ≤ mostFields) × (more * entryWidth ≤ length (now listed)) ⌝ }
+    ensures { λ r. ⌜ r ≡ lengthJudged (widthAfter width (entries fields (now (table .entry)) ++ entries more (now (listed .entry)))) (now (out .entry)) ⌝ }
+{
+    let body = record_width(width, table, fields);
+    if MOST_BYTES < body {
+        return Verdict::Refused(Refusal::TooLong);
+    }
+    judge_length(record_width(body - HEAD_WIDTH, listed, more), out)
+}
+
+// 8, 23, 9 and 10, 1, 23 over all fields, of a record whose fixed part keeps its rules.
+fn judge_rest(
+    k: Kind,
+    fixed: &[u8],
+    table: &[usize],
+    fields: usize,
+    contents: &[u8],
+    listed: &[usize],
+    n: usize,
+    texts: &[u8],
+    out: &[u8],
+) -> Verdict
+    requires { ⌜ (length (now fixed) ≤ 108) × (n ≤ mostParts) × (n * loopFields * entryWidth ≤ length (now listed)) × (allInside (now texts) (entries (n * loopFields) (now listed)) ≡ true) × (areLoops n (optionalOf (now texts) (entries (n * loopFields) (now listed))) ≡ true) ⌝ }
+    ensures { λ r. ⌜ r ≡ restWith (optionalOf (now (texts .entry)) (entries (n * loopFields) (now (listed .entry)))) k (now (fixed .entry)) (now (table .entry)) fields (now (contents .entry)) (now (out .entry)) ⌝ }
+{
+    let more = n * LOOP_FIELDS;
+    if MOST_FIELDS - more < fields {
+        return Verdict::Refused(Refusal::TooManyFields);
+    }
+    if table.len() < fields * ENTRY_WIDTH {
+        return Verdict::Refused(Refusal::SmallTable);
+    }
+    match judge_fields(k, 0, table, fields, contents) {
+        Verdict::Refused(r) => Verdict::Refused(r),
+        Verdict::Fits(_) => match judge_fields(k, fields, listed, more, texts) {
+            Verdict::Refused(r) => Verdict::Refused(r),
+            Verdict::Fits(_) => judge_whole(fixed.len(), table, fields, listed, more, out),
+        },
+    }
+}
+
+// The first refusal of writing the table's fields and then the parts', or the length of the record.
+fn judge_with(
+    fixed: &[u8],
+    table: &[usize],
+    fields: usize,
+    contents: &[u8],
+    listed: &[usize],
+    n: usize,
+    texts: &[u8],
+    out: &[u8],
+) -> Verdict
+    requires { ⌜ (n ≤ mostParts) × (n * loopFields * entryWidth ≤ length (now listed)) × (allInside (now texts) (entries (n * loopFields) (now listed)) ≡ true) × (areLoops n (optionalOf (now texts) (entries (n * loopFields) (now listed))) ≡ true) ⌝ }
+    ensures { λ r. ⌜ r ≡ judgedWith (optionalOf (now (texts .entry)) (entries (n * loopFields) (now (listed .entry)))) (now (fixed .entry)) (now (table .entry)) fields (now (contents .entry)) (now (out .entry)) ⌝ }
+{
+    match judge_fixed(fixed) {
+        Verdict::Refused(r) => Verdict::Refused(r),
+        Verdict::Fits(_) => match kind_of(fixed) {
+            Kinded::Unknown => Verdict::Refused(Refusal::FixedField(0)),
+            Kinded::Known(k) => {
+                judge_rest(k, fixed, table, fields, contents, listed, n, texts, out)
+            }
+        },
+    }
+}
+
+// The whole record from the front of the output on: the parts' fields stand where the table's would end.
+fn put_with(
+    out: &mut [u8],
+    fixed: &[u8],
+    table: &[usize],
+    fields: usize,
+    contents: &[u8],
+    listed: &[usize],
+    more: usize,
+    texts: &[u8],
+)
+    requires { ⌜ (length (now fixed) ≤ 108) × (fields ≤ mostFields) × (fields * entryWidth ≤ length (now table)) × (allInside (now contents) (entries fields (now table)) ≡ true) × (more ≤ mostFields) × (more * entryWidth ≤ length (now listed)) × (allInside (now texts) (entries more (now listed)) ≡ true) × (widthAfter (length (now fixed)) (entries fields (now table) ++ entries more (now listed)) ≤ mostBytes) × (widthAfter (length (now fixed)) (entries fields (now table) ++ entries more (now listed)) ≤ length (now out)) ⌝ }
+    ensures { λ _. ⌜ now (out .exit) ≡ sets (now (out .entry)) 0 (recordText (now (fixed .entry)) (optionalOf (now (contents .entry)) (entries fields (now (table .entry))) ++ optionalOf (now (texts .entry)) (entries more (now (listed .entry))))) ⌝ }
+{
+    put_record(out, fixed, table, fields, contents);
+    let at = record_width(fixed.len(), table, fields) - HEAD_WIDTH;
+    put_record(&mut out[at..], b"", listed, more, texts);
+}
+
+// Writes the table's fields and then the parts', or refuses and changes nothing.
+pub fn write_with(
+    fixed: &[u8],
+    table: &[usize],
+    fields: usize,
+    contents: &[u8],
+    listed: &[usize],
+    n: usize,
+    texts: &[u8],
+    out: &mut [u8],
+) -> Written
+    requires { ⌜ (n ≤ mostParts) × (n * loopFields * entryWidth ≤ length (now listed)) × (allInside (now texts) (entries (n * loopFields) (now listed)) ≡ true) × (areLoops n (optionalOf (now texts) (entries (n * loopFields) (now listed))) ≡ true) ⌝ }
+    ensures { λ r. ⌜ outcome r (now (out .exit)) ≡ writeWith (optionalOf (now (texts .entry)) (entries (n * loopFields) (now (listed .entry)))) (now (fixed .entry)) (now (table .entry)) fields (now (contents .entry)) (now (out .entry)) ⌝ }
+{
+    match judge_with(fixed, table, fields, contents, listed, n, texts, out) {
+        Verdict::Refused(r) => written_of(Verdict::Refused(r)),
+        Verdict::Fits(length) => {
+            put_with(
+                out,
+                fixed,
+                table,
+                fields,
+                contents,
+                listed,
+                n * LOOP_FIELDS,
+                texts,
+            );
+            written_of(Verdict::Fits(length))
+        }
+    }
+}
