@@ -5,3 +5,4 @@ pub mod Answers
 pub mod Read
 pub mod Entries
 pub mod Write
+pub mod Cases
