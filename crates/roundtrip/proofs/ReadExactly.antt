@@ -123,7 +123,7 @@ module _ (k : Kind) (fixed : List ℕ) (fs : List Optional) (w : Whole k fixed f
       ∙ judge-fits k (fixedWidth k) (drop (fixedWidth k) text) (length fs) walked 0 well
 
   -- its optional fields are those that it was made of
-  whole-fields : optionalFields (length fs) text ≡ fs
+  pub whole-fields : optionalFields (length fs) text ≡ fs
   unfolding optionalFields optionalStart
   whole-fields = rw (whole-kind, behind) (text-fields fs sound)
 

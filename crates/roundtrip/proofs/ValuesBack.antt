@@ -30,7 +30,7 @@ abbrev pub AllAllowed : List ℕ → Type 0
 AllAllowed s = all (belongs Allowed) s ≡ true
 
 -- bytes that stand for no value are not allowed
-not-allowed : (w : ℕ) → 0 < w → AllAllowed (unwritable w) → ⊥
+pub not-allowed : (w : ℕ) → 0 < w → AllAllowed (unwritable w) → ⊥
 unfolding unwritable all belongs
 not-allowed zero h e = omega arith
 not-allowed (suc w) h e = false≢true e
