@@ -37,9 +37,10 @@ pub record-sound : (k : Kind) (before : ℕ) (fs : List Optional) → optionalKe
 unfolding contentsAllowed contentKept
 record-sound k before [] e a = tt
 record-sound k before (f ∷ fs) e a =
-    let one = first-kept k before f fs e in
-    (record { rule = and-right (not (guarded k (f .id) && any barred (f .content))) (keeps (contentRule (f .id)) [] (f .content)) (one .content); allowed = and-left (all (belongs Allowed) (f .content)) (contentsAllowed fs) a },
-    record-sound k (f .id) fs (one .others) (and-right (all (belongs Allowed) (f .content)) (contentsAllowed fs) a))
+    let one = first-kept k before f fs e in (
+      record { rule = and-right (not (guarded k (f .id) && any barred (f .content))) (keeps (contentRule (f .id)) [] (f .content)) (one .content); allowed = and-left (all (belongs Allowed) (f .content)) (contentsAllowed fs) a },
+      record-sound k (f .id) fs (one .others) (and-right (all (belongs Allowed) (f .content)) (contentsAllowed fs) a),
+    )
 
 -- and so are the first of them, and the others
 pub sound-take : (n : ℕ) (fs : List Optional) → AllSound fs → AllSound (take n fs)

@@ -168,3 +168,9 @@ parts-stored (p ∷ ps) s at rest h e =
     let first = part-from s at ∙ ap (λ (l : List ℕ). lentPart l 0) q ∙ part-stored p (h .0) (roomOf ps ++ rest) in
     let after = sym (drop-drop partWidth at s) ∙ ap (drop partWidth) q ∙ drop-at (partBytes p) (roomOf ps ++ rest) partWidth (entry-length p (h .0) rest) in
     ap₂ (λ (x : Part) (xs : List Part). x ∷ xs) first (parts-stored ps s (at + partWidth) rest (h .1) after)
+
+-- entries take so many bytes each
+pub room-length : (ps : List Part) → AllStored ps → length (roomOf ps) ≡ length ps * partWidth
+unfolding roomOf
+room-length [] h = refl
+room-length (p ∷ ps) h = length-append (partBytes p) (roomOf ps) ∙ rw (entry-length p (h .0) [], room-length ps (h .1)) (omega arith)

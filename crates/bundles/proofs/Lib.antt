@@ -4,3 +4,10 @@ pub mod LoopBack
 pub mod PartBack
 pub mod LentBack
 pub mod PartsBack
+pub mod Others
+pub mod ReadDone
+pub mod Fronts
+pub mod WriteDone
+pub mod ReadAfterWrite
+pub mod WriteAfterRead
+pub mod Demand2

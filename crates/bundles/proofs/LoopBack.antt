@@ -89,17 +89,19 @@ module _ (fs : List Optional) (l : length fs ≡ loopFields) (e : isLoop loop fs
   texts-back : partTexts true (partOf fs) ≡ textsOf fs
   unfolding partTexts partOf priceFrom articleFrom loop contents isIn ruleIn contentRule
   texts-back =
-      rw (ten fs l,
-      amount-back fs 1 (rule-at fs e s 1 (omega arith)),
-      amount-back fs 4 (rule-at fs e s 4 (omega arith)),
-      article-back fs 7 (rule-at fs e s 7 (omega arith)),
-      medium-back (textOf 9 fs) (rule-at fs e s 9 (omega arith)),
-      one-byte (textOf 0 fs) (tax-length (textOf 0 fs) (rule-at fs e s 0 (omega arith))),
-      fitted-whole 2 (textOf 2 fs) (of-length Capital 2 (textOf 2 fs) (rule-at fs e s 2 (omega arith))),
-      fitted-whole 3 (textOf 3 fs) (of-length Capital 3 (textOf 3 fs) (rule-at fs e s 3 (omega arith))),
-      fitted-whole 2 (textOf 5 fs) (of-length Capital 2 (textOf 5 fs) (rule-at fs e s 5 (omega arith))),
-      fitted-whole 3 (textOf 6 fs) (of-length Capital 3 (textOf 6 fs) (rule-at fs e s 6 (omega arith))),
-      fitted-whole 2 (textOf 8 fs) (of-length Capital 2 (textOf 8 fs) (rule-at fs e s 8 (omega arith))))
+      rw (
+        ten fs l,
+        amount-back fs 1 (rule-at fs e s 1 (omega arith)),
+        amount-back fs 4 (rule-at fs e s 4 (omega arith)),
+        article-back fs 7 (rule-at fs e s 7 (omega arith)),
+        medium-back (textOf 9 fs) (rule-at fs e s 9 (omega arith)),
+        one-byte (textOf 0 fs) (tax-length (textOf 0 fs) (rule-at fs e s 0 (omega arith))),
+        fitted-whole 2 (textOf 2 fs) (of-length Capital 2 (textOf 2 fs) (rule-at fs e s 2 (omega arith))),
+        fitted-whole 3 (textOf 3 fs) (of-length Capital 3 (textOf 3 fs) (rule-at fs e s 3 (omega arith))),
+        fitted-whole 2 (textOf 5 fs) (of-length Capital 2 (textOf 5 fs) (rule-at fs e s 5 (omega arith))),
+        fitted-whole 3 (textOf 6 fs) (of-length Capital 3 (textOf 6 fs) (rule-at fs e s 6 (omega arith))),
+        fitted-whole 2 (textOf 8 fs) (of-length Capital 2 (textOf 8 fs) (rule-at fs e s 8 (omega arith))),
+      )
 
   -- so its fields are the loop again
   pub loop-back : partFields true (partOf fs) ≡ fs

@@ -1,3 +1,6 @@
 pub mod Fits
 pub mod Members
 pub mod Series
+pub mod Joined
+pub mod Alike
+pub mod Together

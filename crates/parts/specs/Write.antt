@@ -35,11 +35,16 @@ moved by (suc n) table = getD table 0 0 ∷ (by + getD table 1 0) ∷ getD table
 unfoldable pub entriesThere : ℕ → List ℕ → ℕ
 entriesThere count table = min count (length table / entryWidth)
 
--- writing (RULES 5.1) of all fields, those of the table and then more, as one table: the contents of the others stand before those that are lent
+-- all fields, those of a table and then more, as one table: the contents of the others stand before those that are lent
+abbrev pub tableWith : List Optional → List ℕ → ℕ → List ℕ
+tableWith more table count = moved (length (contentsOf more)) (entriesThere count table) table ++ listed 0 more
+
+abbrev pub contentsWith : List Optional → List ℕ → List ℕ
+contentsWith more contents = contentsOf more ++ contents
+
+-- writing (RULES 5.1) of all these fields
 unfoldable pub writeWith : List Optional → List ℕ → List ℕ → ℕ → List ℕ → List ℕ → Outcome
-writeWith more fixed table count contents out =
-    write fixed (moved (length (contentsOf more)) (entriesThere count table) table ++ listed 0 more) (count + length more)
-    (contentsOf more ++ contents) out
+writeWith more fixed table count contents out = write fixed (tableWith more table count) (count + length more) (contentsWith more contents) out
 
 -- an entry of the table begins a loop
 unfoldable pub hasLoop : List ℕ → ℕ → Bool

@@ -56,7 +56,7 @@ checked-same v n e =
     d .1 ∙ ap (λ (c : Checked). Fits (c .fields)) (ap checkedOf (sym (d .1)) ∙ e)
 
 -- so a text in which a check with any large table finds some fields fits with as many
-tabled-fits : (s : List ℕ) (fields : List Optional) → Tabled s fields → judged s ≡ Fits (length fields)
+pub tabled-fits : (s : List ℕ) (fields : List Optional) → Tabled s fields → judged s ≡ Fits (length fields)
 unfolding check
 tabled-fits s fields t =
     let lent : List ℕ = replicate (mostFields * entryWidth) 0 in
