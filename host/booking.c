@@ -2,6 +2,7 @@
 #define _XOPEN_SOURCE 700
 
 #include "booking.h"
+#include "parts.h"
 #include "text.h"
 #include "words.h"
 
@@ -45,6 +46,8 @@ static struct tally book_records(struct booking *booking, struct book *book, str
         print_answer(stdout, input->name, ++number, &record, &booked, book);
         count_answer(&tally, booked.answer);
         booking->other_article += booked.answer == WQ_DONE && !booked.agreed;
+        if (booked.answer == WQ_DONE && !print_parts(stdout, &record))
+            booking->parts_untold++;
         if (tally.refused > before && booking->all.refused + before < MOST_REPEATED)
             print_answer(booking->refused, input->name, number, &record, &booked, book);
     }
@@ -107,6 +110,8 @@ void booking_print_tally(const struct booking *booking)
            booking->all.no_need, booking->all.refused);
     if (booking->other_article > 0)
         printf("booked under another article than the order's: %lu\n", booking->other_article);
+    if (booking->parts_untold > 0)
+        printf("bundles booked whose parts cannot be told: %lu\n", booking->parts_untold);
     if (booking->left_out > 0)
         printf("files booked before, and left out: %lu\n", booking->left_out);
 }

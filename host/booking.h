@@ -12,6 +12,7 @@ struct booking {
     struct tally all;           /* over all files */
     unsigned long left_out;     /* files that were booked before */
     unsigned long other_article; /* records booked under another article than the order's */
+    unsigned long parts_untold; /* bundles booked whose parts cannot be told */
     FILE *refused;              /* answers that are told again at the end, */
     char *text;                 /* in memory */
     size_t length;

@@ -218,7 +218,7 @@ static enum exit_code run(struct book_file *file, struct input *inputs,
                           const struct request *request, const struct roster *roster)
 {
     static struct book book;
-    struct booking booking = {request->again, {0, 0, 0}, 0, 0, NULL, NULL, 0};
+    struct booking booking = {request->again, {0, 0, 0}, 0, 0, 0, NULL, NULL, 0};
     enum exit_code code;
     book.roster = roster;
     if (file->wishes.write)

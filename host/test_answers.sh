@@ -114,7 +114,7 @@ expect_text got wanted_fields "each field"
 # --- odd records ------------------------------------------------------------------------------
 long=$(printf '%5000s' '' | tr ' ' 'x')
 most=$(printf '%947s' '' | tr ' ' 'x')
-fields=$(number=0; while [ $number -lt 65 ]; do printf '*8888'; number=$((number + 1)); done)
+fields=$(number=0; while [ $number -lt 97 ]; do printf '*8888'; number=$((number + 1)); done)
 put "$X" "$long" "" "$(order A-18 0010 "*8888$most")" "$(order A-19 0010 "*8888x$most")" \
     "$(printf 'B\r101')" "$(printf '%s\n' "$(order A-21 0001)" x)" "$Y" \
     "$(order A-22 0001 '*12')" "$(order A-22 0001 '*9999')" "$(order A-22 0001 "$fields")" \
@@ -138,7 +138,7 @@ odd.bwa:7 B101 4 a byte that is not allowed: byte 10 (place 72) | $who, referenc
 odd.bwa:8 L101 0 done | $whom, position 0001, reference A-17, $item, quantity 0004 | ordered 10, filled 4, open 6, let go 0, extra 0
 odd.bwa:9 B101 6 an optional field has no star or no four digits (place 67) | $who, reference A-22, $item, quantity 0001
 odd.bwa:10 B101 7 *9999 is missing or not last (place 67) | $who, reference A-22, $item, quantity 0001
-odd.bwa:11 B101 8 more than 64 optional fields (place 387) | $who, reference A-22, $item, quantity 0001
+odd.bwa:11 B101 8 more than 96 optional fields (place 547) | $who, reference A-22, $item, quantity 0001
 odd.bwa:12 B101 9 an optional field has a wrong content: field *1029 (place 67) | $who, reference A-22, $item, quantity 0001
 odd.bwa:13 B101 11 the quantity is 0 | $who, reference A-22, $item, quantity 0000
 odd.bwa:14 B101 14 the book has an order with this school, supplier and reference already | $who, reference A-17, $item, quantity 0012 | in the book: $item, quantity 0010

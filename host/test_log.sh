@@ -15,7 +15,7 @@ for length in $lengths; do
     pass
 done
 copy_book day.book log.book
-grep -q "^20..-..-..T..:..:..Z from $(printf '\0\0\0\0\0' | sha256sum | cut -c 1-16) to $(digest day.book | cut -c 1-16): file $(digest day.bwa), 14 booked, 3 with nothing to book, 9 refused, no roster: day.bwa\$" log.book.log ||
+grep -q "^20..-..-..T..:..:..Z from $(printf '\0\0\0\0\0' | sha256sum | cut -c 1-16) to $(digest day.book | cut -c 1-16): file $(digest day.bwa), 16 booked, 3 with nothing to book, 9 refused, no roster: day.bwa\$" log.book.log ||
     fail "log: no line of the day"
 pass
 

@@ -9,7 +9,7 @@
 #define PROGRAM "wizqamul-host"
 
 /* Room for the longest field as text: each byte as \xNN, and the end. */
-enum { TEXT_ROOM = 4 * WQ_ARTICLE_WIDTH + 1 };
+enum { TEXT_ROOM = 4 * WQ_PART_ARTICLE_WIDTH + 1 };
 
 /* A field as text: blanks at its end dropped; bytes above 127 are taken as Windows-1252 and
    shown as UTF-8; a backslash, and bytes that are no sign at all, are shown as \xNN. */

@@ -6,7 +6,7 @@
 #include <string.h>
 
 enum {
-    LAST_ANSWER = WQ_CEILING_PASSED,
+    LAST_ANSWER = WQ_TOO_MANY_PARTS,
     QUANTITY_WIDTH = 4,
     FULL_ARTICLE_WIDTH = WQ_ARTICLE_WIDTH + WQ_QUALIFIER_WIDTH
 };
@@ -20,7 +20,7 @@ static const char *const answer_words[LAST_ANSWER + 1] = {
     "a field breaks its rule",
     "an optional field has no star or no four digits",
     "*9999 is missing or not last",
-    "more than 64 optional fields",
+    "more than 96 optional fields",
     "an optional field has a wrong content",
     "optional fields that belong together are apart",
     "the quantity is 0",
@@ -37,7 +37,9 @@ static const char *const answer_words[LAST_ANSWER + 1] = {
     "the saved book is damaged",
     "the room is too small",
     "the school is not on the roster",
-    "the order would bring the school above its ceiling"
+    "the order would bring the school above its ceiling",
+    "a bundle without parts, or with parts that are not as they must be",
+    "a bundle of more than eight parts"
 };
 
 /* How a field is told where a record is named. */
