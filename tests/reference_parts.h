@@ -43,7 +43,7 @@ enum {
 
 /* Limits of records and of their optional part. */
 enum {
-    LONGEST_RECORD = 1024, MOST_FIELDS = 64, TABLE_STRIDE = 3,
+    LONGEST_RECORD = 1024, MOST_FIELDS = 96, TABLE_STRIDE = 3,
     ID_DIGITS = 4, FIELD_HEAD = 1 + ID_DIGITS, END_ID = 9999
 };
 
