@@ -302,7 +302,8 @@ static void check_field_limit(struct dice *dice)
                 uint64_t answer = check(record, length + strlen(ends[i]));
                 if (i > 0)
                     continue;
-                insist(answer == (count > IN_MOST_FIELDS ? 8 : 0), "a record has 96 fields at most");
+                insist(answer == (count > IN_MOST_FIELDS ? 8 : 0),
+                       "a record has 96 fields at most");
                 came_up(READ_OF_96, count == IN_MOST_FIELDS);
                 came_up(READ_OF_97_IS_8, count == IN_MOST_FIELDS + 1);
             }
