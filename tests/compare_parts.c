@@ -174,6 +174,45 @@ static void drop_each_unit(struct dice *dice, size_t loops)
     }
 }
 
+/* Each unit of a loop replaced by as many other fields, an article also by another group. */
+static void replace_each_unit(struct dice *dice, size_t loops)
+{
+    static const size_t groups[][2] = {{8888, 8888}, {1017, 1018}, {1113, 1114}, {1115, 1116}};
+    struct sheet sheet, damaged;
+    size_t first = make_looped(dice, &sheet, loops);
+    for (size_t i = 0; i < loops * UNITS; i++) {
+        size_t unit = i % UNITS, start = first + i / UNITS * IN_LOOP + unit_starts[unit];
+        const size_t *others = groups[unit == 3 ? below(dice, 4) : 0];
+        int passes = i == 0 && loops > 1;
+        damaged = sheet;
+        for (size_t j = unit_starts[unit]; j < unit_starts[unit + 1]; j++) {
+            uint8_t content[2] = {'K', 'L'};
+            add_field(&damaged, others[j % 2 == unit_starts[unit] % 2 ? 0 : 1], content, 2);
+            move_last(&damaged, start + j - unit_starts[unit]);
+        }
+        drop_fields(&damaged, start + unit_starts[unit + 1] - unit_starts[unit],
+                    unit_starts[unit + 1] - unit_starts[unit]);
+        expect(passes ? FIRST_TAX_FIELD_MISSING : UNIT_REPLACED_IS_26, 1, read_sheet(&damaged),
+               passes ? 0 : 26);
+    }
+}
+
+/* As many other fields before the loops as a record may have. */
+static void read_behind_many(struct dice *dice, size_t loops)
+{
+    struct sheet sheet;
+    make_bundle_sheet(dice, &sheet, 0);
+    while (sheet.count + loops * IN_LOOP < IN_MOST_FIELDS)
+        add_field(&sheet, below(dice, 1000), (const uint8_t *)"", 0);
+    size_t first = sheet.count;
+    for (size_t i = 0; i < loops; i++) {
+        make_part(dice, 9, parts + i * IN_PART);
+        add_loop(&sheet, parts + i * IN_PART);
+    }
+    expect(LOOPS_BEHIND_64_FIELDS, first >= 64, read_sheet(&sheet), 0);
+    insist(tally.value == loops, "all loops behind many fields are read");
+}
+
 /* Two neighbouring fields exchanged. Only where a loop ends no group is broken. */
 static void exchange_fields(struct dice *dice, size_t loops)
 {
@@ -328,7 +367,7 @@ static void read_into_rooms(struct dice *dice)
     static const size_t rooms[] = {0, 1, IN_PART - 1, IN_PART, 2 * IN_PART, IN_FULL_PARTS - IN_PART,
                                    IN_FULL_PARTS - 1, IN_FULL_PARTS, IN_FULL_PARTS + 1,
                                    IN_FULL_PARTS + IN_PART, PARTS_ROOM};
-    static const size_t loops[] = {1, 8, 0, 9, 2};
+    static const size_t loops[] = {1, 8, 0, 9, 2, 3};
     struct sheet sheet;
     uint8_t record[RECORD_ROOM];
     for (size_t i = 0; i < sizeof rooms / sizeof rooms[0]; i++)
@@ -337,6 +376,8 @@ static void read_into_rooms(struct dice *dice)
             size_t length = assemble(&sheet, record);
             if (loops[j] == 2)
                 record[below(dice, length)] = odd_byte(dice, 'x');
+            if (loops[j] == 3)
+                record[IN_TAX_MARK] = '1';
             uint64_t answer = both_parts(record, length, parts, rooms[i]);
             if (rooms[i] < IN_FULL_PARTS)
                 expect(rooms[i] == 0 ? PARTS_ROOM_OF_NONE_IS_23 : PARTS_ROOM_SHORT_IS_23,
@@ -344,6 +385,7 @@ static void read_into_rooms(struct dice *dice)
             else
                 came_up(rooms[i] == IN_FULL_PARTS ? PARTS_ROOM_JUST_RIGHT : PARTS_ROOM_LARGER,
                         answer == 0 && loops[j] == 8);
+            came_up(PARTS_ROOM_SHORT_OF_OTHERS_IS_23, answer == 23 && loops[j] == 3);
             came_up(PARTS_ROOM_SHORT_BEFORE_26, answer == 23 && loops[j] == 0);
             came_up(PARTS_ROOM_SHORT_BEFORE_27, answer == 23 && loops[j] == 9);
         }
@@ -427,10 +469,12 @@ void compare_parts(struct dice *dice)
             read_bundle(dice, count);
         read_without_mark(dice, count);
         read_without_loops(dice);
+        read_behind_many(dice, count);
     }
     for (size_t loops = 1; loops <= 3; loops++) {
         drop_each_field(dice, loops);
         drop_each_unit(dice, loops);
+        replace_each_unit(dice, loops);
         exchange_fields(dice, loops);
         exchange_units(dice, loops);
         put_field_in(dice, loops, chance(dice, 2) ? 8888 : 9001);
