@@ -462,6 +462,21 @@ static void read_article_bytes(struct dice *dice)
     }
 }
 
+/* A room whose length is too small in its low two bytes alone. */
+static void read_into_far_rooms(struct dice *dice)
+{
+    enum { TWO_BYTES = 65536 };
+    static uint8_t room[TWO_BYTES + IN_FULL_PARTS];
+    struct sheet sheet;
+    uint8_t record[RECORD_ROOM];
+    for (size_t loops = 1; loops <= IN_MOST_PARTS; loops++) {
+        make_looped(dice, &sheet, loops);
+        size_t length = assemble(&sheet, record);
+        expect(PARTS_ROOM_OVER_65536, 1,
+               both_parts(record, length, room, TWO_BYTES + below(dice, IN_FULL_PARTS)), 0);
+    }
+}
+
 void compare_parts(struct dice *dice)
 {
     for (size_t count = 1; count <= IN_MOST_PARTS; count++) {
@@ -492,4 +507,5 @@ void compare_parts(struct dice *dice)
 void compare_part_bytes(struct dice *dice)
 {
     read_article_bytes(dice);
+    read_into_far_rooms(dice);
 }

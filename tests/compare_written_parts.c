@@ -603,6 +603,19 @@ static void write_lengths(struct dice *dice)
     }
 }
 
+/* An output whose length is too small in its low two bytes alone. */
+static void write_into_far_output(struct dice *dice)
+{
+    enum { TWO_BYTES = 65536 };
+    static struct bundle bundle;
+    static uint8_t out[TWO_BYTES + IN_LONGEST];
+    for (size_t count = 1; count <= IN_MOST_PARTS; count++) {
+        make_bundle(dice, &bundle, count);
+        expect(BUNDLE_OUT_OVER_65536, 1,
+               both_write_parts(&bundle, out, TWO_BYTES + below(dice, 100)), 0);
+    }
+}
+
 void compare_written_parts(struct dice *dice)
 {
     for (size_t count = 1; count <= IN_MOST_PARTS; count++)
@@ -629,4 +642,5 @@ void compare_written_bytes(struct dice *dice)
     write_bad_fixed(dice);
     write_listed(dice);
     sweep_bytes(dice);
+    write_into_far_output(dice);
 }
