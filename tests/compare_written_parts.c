@@ -317,7 +317,7 @@ static void write_unmarked(struct dice *dice)
 }
 
 /* The fixed part of a bundle damaged at every byte, and of every length: 26 where it is then no
-   bundle's, else 5. */
+   bundle's, else 5; without parts the other way round. */
 static void write_bad_fixed(struct dice *dice)
 {
     static struct bundle right, bundle;
@@ -342,6 +342,10 @@ static void write_bad_fixed(struct dice *dice)
         expect(length <= IN_TAX_MARK ? FIXED_SHORT_IS_26 : FIXED_LONG_IS_5, length != 108,
                write_bundle(&right), wanted);
         insist(tally.place == 0, "a fixed part of wrong length is wrong at 0");
+        bundle = right;
+        bundle.count = 0;
+        expect(length <= IN_TAX_MARK ? FIXED_SHORT_IS_5 : FIXED_LONG_IS_26, length != 108,
+               write_bundle(&bundle), length <= IN_TAX_MARK ? 5 : 26);
     }
 }
 
