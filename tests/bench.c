@@ -22,7 +22,7 @@
 enum {
     /* 40 repetitions of each side in all */
     PASSES = 10, REPETITIONS = 4, LEAST_NANOSECONDS = 2000000,
-    MOST_RECORDS = 64, FILE_ROOM = 65536, LONGEST = 1024, FULL_TABLE = 192, TEXT = 128,
+    MOST_RECORDS = 64, FILE_ROOM = 65536, LONGEST = 1024, FULL_TABLE = 288, TEXT = 128,
     ORDER_LENGTH = 67, DELIVERY_LENGTH = 108, REPORT_LENGTH = 79,
     ADDRESS = 10, QUALIFIER = 2, NAME = 10,
     SUPPLIER_PLACE = ADDRESS + QUALIFIER, REFERENCE_PLACE = 2 * SUPPLIER_PLACE,
@@ -30,11 +30,13 @@ enum {
     SCHOOLS = 30, MIDDLE = SCHOOLS / 2, MOST_SCHOOLS = 64,
     MOST_LINES = 512, MOST_SLIPS = 2 * MOST_LINES, POSITIONS_ON_A_SLIP = 8,
     SAVE_ROOM = MOST_LINES * SAVED_LINE + MOST_SLIPS * SAVED_SLIP + SAVED_END,
+    TAX_MARK = 107, FIELD_HEAD = 5, LOOP = 10, MOST_PARTS = 8, FULL_PARTS = MOST_PARTS * 68,
     ANSWER_DONE = 0, ANSWER_REPEATED = 17, ANSWER_NOT_ON_ROSTER = 24
 };
 
 static const size_t sizes[] = {10, 100, 256, MOST_LINES};
-enum { SIZES = sizeof sizes / sizeof sizes[0], BOOK_ROWS = 8, KEY_ROWS = 5, ACCOUNT_ROWS = 2 };
+enum { SIZES = sizeof sizes / sizeof sizes[0], BOOK_ROWS = 8, KEY_ROWS = 5, ACCOUNT_ROWS = 2,
+       PART_ROWS = 4 };
 
 /* How a number becomes a name of ten bytes: a front that all names share, then its last
    digits in the signs given, then blanks. */
@@ -57,7 +59,8 @@ static const struct book_kind book_kinds[] = {
      {"KLASSE8-", MANY_SIGNS, 2}, {"LS-2024-", MANY_SIGNS, 2}}
 };
 enum { BOOK_KINDS = sizeof book_kinds / sizeof book_kinds[0],
-       MOST_ROWS = 2 * (1 + MOST_RECORDS) + BOOK_KINDS * BOOK_ROWS * SIZES + ACCOUNT_ROWS };
+       MOST_ROWS = 2 * (1 + MOST_RECORDS) + BOOK_KINDS * BOOK_ROWS * SIZES + ACCOUNT_ROWS
+                 + PART_ROWS };
 
 /* The calls of one side. */
 enum { LIBRARY, REFERENCE, SIDES };
@@ -65,6 +68,10 @@ struct side {
     wq_checked (*check)(const uint8_t *, size_t, size_t *, size_t);
     wq_written (*write)(const uint8_t *, size_t, const size_t *, size_t, size_t,
                         const uint8_t *, size_t, uint8_t *, size_t);
+    wq_parts_read (*parts)(const uint8_t *, size_t, uint8_t *, size_t);
+    wq_written (*write_parts)(const uint8_t *, size_t, const size_t *, size_t, size_t,
+                              const uint8_t *, size_t, const uint8_t *, size_t, size_t,
+                              uint8_t *, size_t);
     wq_booked (*book)(const uint8_t *, size_t, const uint8_t *, size_t, uint8_t *, size_t,
                       uint8_t *, size_t, size_t *);
     wq_told (*line)(const uint8_t *, size_t, const uint8_t *, size_t, const uint8_t *, size_t,
@@ -77,15 +84,18 @@ struct side {
                                const uint8_t *, size_t);
 };
 static const struct side sides[SIDES] = {
-    {wq_check, wq_write, wq_book, wq_line, wq_save, wq_load, wq_account},
-    {ref_check, ref_write, ref_book, ref_line, ref_save, ref_load, ref_account}
+    {wq_check, wq_write, wq_parts, wq_write_parts, wq_book, wq_line, wq_save, wq_load, wq_account},
+    {ref_check, ref_write, ref_parts, ref_write_parts, ref_book, ref_line, ref_save, ref_load,
+     ref_account}
 };
 
-/* A record of the file, and what reading it gives. */
+/* A record of the file, and what reading it and its parts gives. */
 struct record {
     const uint8_t *bytes;
     size_t length, fixed_length, table[FULL_TABLE];
     wq_checked checked;
+    uint8_t parts[FULL_PARTS];
+    size_t part_count;
 };
 
 /* A lent book. */
@@ -125,7 +135,7 @@ struct row {
 /* The article of all orders with its qualifier, and the number that a supplier has for it. */
 static const char ordered_title[] = "9783442756841EN", own_title[] = "1234567      UM";
 
-static struct record records[MOST_RECORDS];
+static struct record records[MOST_RECORDS], bundles[PART_ROWS / 2];
 static wq_school roster[MOST_SCHOOLS];
 static struct book kept, lent, loaded;
 static size_t references; /* that each school of the book uses */
@@ -186,6 +196,35 @@ static uint64_t run_write(const struct side *side, const struct task *task, size
                                          record->bytes, record->length, out, LONGEST);
             wrong |= got.answer | got.place | (got.length ^ record->length);
         }
+    return wrong;
+}
+
+static uint64_t run_parts(const struct side *side, const struct task *task, size_t rounds)
+{
+    static uint8_t parts[FULL_PARTS];
+    const struct record *record = task->records;
+    uint64_t wrong = 0;
+    while (rounds-- > 0) {
+        wq_parts_read got = side->parts(record->bytes, record->length, parts, FULL_PARTS);
+        wrong |= got.answer | got.place | (got.parts ^ record->part_count);
+    }
+    return wrong;
+}
+
+/* A bundle is written again from its own table, so far as it stands before the parts, and from
+   its parts. */
+static uint64_t run_write_parts(const struct side *side, const struct task *task, size_t rounds)
+{
+    const struct record *record = task->records;
+    size_t fields = (size_t)record->checked.fields - record->part_count * LOOP;
+    uint64_t wrong = 0;
+    while (rounds-- > 0) {
+        wq_written got = side->write_parts(record->bytes, record->fixed_length, record->table,
+                                           FULL_TABLE, fields, record->bytes, record->length,
+                                           record->parts, FULL_PARTS, record->part_count,
+                                           out, LONGEST);
+        wrong |= got.answer | got.place | (got.length ^ record->length);
+    }
     return wrong;
 }
 
@@ -369,6 +408,25 @@ static void take_record(struct record *record, const uint8_t *bytes, size_t leng
         memset(out, 0, LONGEST);
         insist(run_write(&sides[side], &task, 1) == 0 && memcmp(out, bytes, length) == 0,
                "a record is not written as it was read");
+    }
+}
+
+/* Both sides read the same parts of the record and write it with them as it was. */
+static void take_parts(struct record *record)
+{
+    uint8_t parts[FULL_PARTS] = {0};
+    struct task task = one_call;
+    wq_parts_read first = ref_parts(record->bytes, record->length, record->parts, FULL_PARTS);
+    wq_parts_read second = wq_parts(record->bytes, record->length, parts, FULL_PARTS);
+    insist(memcmp(&first, &second, sizeof first) == 0 && first.answer == ANSWER_DONE
+           && memcmp(parts, record->parts, sizeof parts) == 0, "parts are read differently");
+    record->part_count = (size_t)first.parts;
+    task.records = record;
+    for (size_t side = 0; side < SIDES; side++) {
+        memset(out, 0, LONGEST);
+        insist(run_write_parts(&sides[side], &task, 1) == 0
+               && memcmp(out, record->bytes, record->length) == 0,
+               "a record is not written with its parts as it was read");
     }
 }
 
@@ -589,6 +647,46 @@ static struct row *add_row(const char *call, run *calls)
     return row;
 }
 
+static int is_bundle(const struct record *record)
+{
+    return record->bytes[0] == 'L' && record->bytes[TAX_MARK] == '6';
+}
+
+/* The bundle of two parts that the papers have, and one of eight parts made from it. */
+static void take_bundles(size_t count)
+{
+    static uint8_t bytes[LONGEST];
+    size_t found = 0;
+    while (found < count && !is_bundle(&records[found]))
+        found++;
+    insist(found < count, "the file holds no bundle");
+    const struct record *paper = &bundles[0];
+    bundles[0] = records[found];
+    take_parts(&bundles[0]);
+    insist(paper->part_count == 2, "the bundle of the file has not two parts");
+    size_t first = (size_t)paper->checked.fields - 2 * LOOP;
+    size_t start = paper->table[3 * first + 1] - FIELD_HEAD;
+    size_t loops = paper->length - FIELD_HEAD - start, length = start;
+    memcpy(bytes, paper->bytes, start);
+    for (size_t i = 0; i < MOST_PARTS / 2; i++, length += loops)
+        memcpy(bytes + length, paper->bytes + start, loops);
+    memcpy(bytes + length, "*9999", FIELD_HEAD);
+    take_record(&bundles[1], bytes, length + FIELD_HEAD);
+    take_parts(&bundles[1]);
+    insist(bundles[1].part_count == MOST_PARTS, "the larger bundle has not eight parts");
+}
+
+static void add_bundles(const char *call, run *calls)
+{
+    for (size_t i = 0; i < PART_ROWS / 2; i++) {
+        struct row *row = add_row(call, calls);
+        row->task.records = &bundles[i];
+        snprintf(row->input, sizeof row->input, "bundle of %zu parts, %zu bytes, %" PRIu64
+                 " fields", bundles[i].part_count, bundles[i].length,
+                 bundles[i].checked.fields);
+    }
+}
+
 /* All records in turn, then each alone where that is wanted too. */
 static void add_records(const char *call, run *calls, size_t count, int alone)
 {
@@ -649,6 +747,9 @@ static void add_rows(size_t taken, int alone)
 {
     add_records("check", run_check, taken, alone);
     add_records("write", run_write, taken, alone);
+    take_bundles(taken);
+    add_bundles("parts", run_parts);
+    add_bundles("write with parts", run_write_parts);
     for (const struct book_kind *kind = book_kinds; kind < book_kinds + BOOK_KINDS; kind++)
         for (size_t i = 0; i < kind->rows; i++)
             add_books(kind, i);

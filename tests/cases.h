@@ -7,6 +7,8 @@
 
 void compare_checks(struct dice *dice);
 void compare_writes(struct dice *dice);
+void compare_parts(struct dice *dice);
+void compare_written_parts(struct dice *dice);
 void compare_bookings(struct dice *dice);
 void compare_rosters(struct dice *dice);
 void compare_ceilings(struct dice *dice);
@@ -16,6 +18,8 @@ void compare_articles(struct dice *dice);
 
 /* In few rounds: every byte, and few cases each of large books and far numbers. */
 void compare_marks(struct dice *dice);
+void compare_part_bytes(struct dice *dice);
+void compare_written_bytes(struct dice *dice);
 void compare_far_records(struct dice *dice);
 void compare_far_books(struct dice *dice);
 void compare_far_saves(struct dice *dice);

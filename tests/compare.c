@@ -8,7 +8,7 @@
 #include <stdio.h>
 #include <stdlib.h>
 
-static const uint64_t default_calls = 1010000, default_seed = 1;
+static const uint64_t default_calls = 1100000, default_seed = 1;
 
 enum { FAR_EVERY = 4 };
 
@@ -19,6 +19,8 @@ static int can_answer(enum call call, uint64_t answer)
     case CHECK: return answer <= 10 || answer == 23;
     case WRITE: return answer <= 1 || answer == 5 || (answer >= 8 && answer <= 10)
                     || answer == 23;
+    case PARTS: return answer <= 10 || answer == 23 || answer == 26 || answer == 27;
+    case WRITE_PARTS: return can_answer(WRITE, answer) || answer == 26 || answer == 27;
     case BOOK: return answer <= 21 || answer == 24 || answer == 25;
     case LINE: return answer == 0 || answer == 16 || answer == 20;
     case SAVE: return answer == 0 || answer == 20 || answer == 23;
@@ -61,6 +63,8 @@ static void run_round(uint64_t seed, uint64_t round)
     dice.state = tally.seed * 0x2545f4914f6cdd1du;
     compare_checks(&dice);
     compare_writes(&dice);
+    compare_parts(&dice);
+    compare_written_parts(&dice);
     compare_bookings(&dice);
     compare_rosters(&dice);
     compare_ceilings(&dice);
@@ -70,6 +74,8 @@ static void run_round(uint64_t seed, uint64_t round)
     if (round % FAR_EVERY != 0)
         return;
     compare_marks(&dice);
+    compare_part_bytes(&dice);
+    compare_written_bytes(&dice);
     compare_far_records(&dice);
     compare_far_books(&dice);
     compare_far_saves(&dice);

@@ -141,7 +141,8 @@ static void book_unreadable(struct dice *dice)
         case 2: add_field(&sheet, listed_ids[below(dice, listed_count)], content,
                           below(dice, 9)); break;
         case 3:
-            for (size_t left = between(dice, 50, 70); left > 0; left--)
+            for (size_t more = between(dice, IN_MOST_FIELDS - 14, IN_MOST_FIELDS + 6); more > 0;
+                 more--)
                 add_field(&sheet, 7, content, 0);
             break;
         default: break;
@@ -150,6 +151,29 @@ static void book_unreadable(struct dice *dice)
         if (i % 5 == 4)
             record[below(dice, length)] = (uint8_t)(chance(dice, 2) ? '*' : roll(dice));
         book_meeting(dice, record, chance(dice, 6) ? below(dice, length) : length, &shelf);
+    }
+}
+
+/* An order, a delivery and a report of the most fields are booked; with one field more each is
+   8 at the star of that field. */
+static void book_field_limit(struct dice *dice)
+{
+    static const enum shape shapes[] = {ORDER_SHAPE, GOODS_SHAPE, REPORT_SHAPE};
+    static struct shelf shelf;
+    struct sheet sheet;
+    uint8_t record[RECORD_ROOM], key[IN_TITLED];
+    make_shelf(dice, &shelf, 2, 2);
+    make_line_key(dice, 0, key);
+    for (size_t i = 0; i < sizeof shapes / sizeof shapes[0]; i++) {
+        make_fixed(dice, &sheet, shapes[i], key, 3);
+        while (sheet.count <= IN_MOST_FIELDS)
+            add_field(&sheet, below(dice, 1000), (const uint8_t *)"7", below(dice, 2));
+        const size_t *last = sheet.table + 3 * IN_MOST_FIELDS;
+        size_t length = assemble(&sheet, record), star = length - 5 - last[2] - 5;
+        expect(BOOKED_OF_97_IS_8, 1, book_listed(dice, record, length, &shelf), 8);
+        insist(tally.place == star, "8 stands at the 97th field");
+        memcpy(record + star, "*9999", 5);
+        expect(BOOKED_OF_96, 1, book_listed(dice, record, star + 5, &shelf), 0);
     }
 }
 
@@ -380,6 +404,7 @@ void compare_bookings(struct dice *dice)
     for (size_t i = 0; i < 3; i++)
         book_small(dice);
     book_unreadable(dice);
+    book_field_limit(dice);
     book_at_limit(dice);
     book_near_keys(dice);
     for (size_t i = 0; i < 4; i++)

@@ -284,14 +284,14 @@ static void check_groups(struct dice *dice)
     }
 }
 
-/* Around 64 fields, with every kind of end. */
+/* Around the most fields, with every kind of end. */
 static void check_field_limit(struct dice *dice)
 {
     static const char *const ends[] = {"*9999", "", "*", "*99", "*999x", "*9999*9999",
                                        "*9999x", "*0000", "*0000*9999", "*1003*9999"};
     struct sheet sheet;
     uint8_t record[RECORD_ROOM];
-    for (size_t count = 62; count <= 66; count++)
+    for (size_t count = IN_MOST_FIELDS - 2; count <= IN_MOST_FIELDS + 2; count++)
         for (size_t shape = 0; shape < SHAPES; shape++)
             for (size_t i = 0; i < sizeof ends / sizeof ends[0]; i++) {
                 make_sheet(dice, &sheet, (enum shape)shape, 0);
@@ -299,7 +299,13 @@ static void check_field_limit(struct dice *dice)
                     add_field(&sheet, below(dice, 1000), (const uint8_t *)"7", below(dice, 2));
                 size_t length = assemble(&sheet, record) - 5;
                 memcpy(record + length, ends[i], strlen(ends[i]));
-                check(record, length + strlen(ends[i]));
+                uint64_t answer = check(record, length + strlen(ends[i]));
+                if (i > 0)
+                    continue;
+                insist(answer == (count > IN_MOST_FIELDS ? 8 : 0),
+                       "a record has 96 fields at most");
+                came_up(READ_OF_96, count == IN_MOST_FIELDS);
+                came_up(READ_OF_97_IS_8, count == IN_MOST_FIELDS + 1);
             }
 }
 
@@ -331,7 +337,9 @@ static void check_length_limit(struct dice *dice)
 
 static void check_small_tables(struct dice *dice)
 {
-    static const size_t lengths[] = {0, 1, 2, 3, 64, 189, 190, 191, 192, 193, 400};
+    static const size_t lengths[] = {0, 1, 2, 3, IN_MOST_FIELDS, 192, IN_FULL_TABLE - 3,
+                                     IN_FULL_TABLE - 2, IN_FULL_TABLE - 1, IN_FULL_TABLE,
+                                     IN_FULL_TABLE + 1, 400};
     struct sheet sheet;
     uint8_t record[RECORD_ROOM];
     for (size_t i = 0; i < sizeof lengths / sizeof lengths[0]; i++)

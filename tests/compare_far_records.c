@@ -3,7 +3,7 @@
 
 #include <string.h>
 
-enum { MOST_FIELDS = 64, HEAD = 5, TWO_BYTES = 65536, FAR_OUTPUT = TWO_BYTES + 4000, STEPS = 4 };
+enum { HEAD = 5, TWO_BYTES = 65536, FAR_OUTPUT = TWO_BYTES + 4000, STEPS = 4 };
 
 static const uint64_t two_32 = (uint64_t)1 << 32;
 
@@ -38,8 +38,8 @@ static void break_last(struct dice *dice, size_t id, size_t count, size_t before
     size_t star = length - 2 * HEAD - sheet.table[3 * count - 1];
     uint64_t answer = both_check(record, length, IN_FULL_TABLE);
     insist(tally.place == star, "10 stands at the last field");
-    expect(GROUP_BROKEN_AT_LAST, count < MOST_FIELDS, answer, 10);
-    came_up(GROUP_BROKEN_AT_64TH, count == MOST_FIELDS);
+    expect(GROUP_BROKEN_AT_LAST, count < IN_MOST_FIELDS, answer, 10);
+    came_up(GROUP_BROKEN_AT_96TH, count == IN_MOST_FIELDS);
     add_valid_field(dice, &sheet, group_next(id) != 0 ? group_next(id) : group_previous(id));
     sheet.count = count;
     expect(WRITTEN_GROUP_BROKEN_AT_LAST, 1, write_all(&sheet, count + 1, IN_LONGEST), 10);
@@ -50,7 +50,8 @@ static void break_last(struct dice *dice, size_t id, size_t count, size_t before
    its group, with the one before it. */
 static void break_groups_last(struct dice *dice)
 {
-    const size_t counts[] = {1, 2, between(dice, 3, 62), 63, 64};
+    const size_t counts[] = {1, 2, between(dice, 3, IN_MOST_FIELDS - 2), IN_MOST_FIELDS - 1,
+                             IN_MOST_FIELDS};
     for (size_t i = 0; i < listed_count; i++)
         for (size_t j = 0; j < sizeof counts / sizeof counts[0]; j++) {
             size_t id = listed_ids[i], previous = group_previous(id);
@@ -107,7 +108,8 @@ static void check_far_lengths(struct dice *dice)
     for (size_t shape = 0; shape < SHAPES; shape++) {
         make_sheet(dice, &sheet, (enum shape)shape, 1);
         size_t length = assemble(&sheet, record);
-        expect(TABLE_OVER_65536, 1, both_check(record, length, TWO_BYTES + below(dice, 192)), 0);
+        expect(TABLE_OVER_65536, 1,
+               both_check(record, length, TWO_BYTES + below(dice, IN_FULL_TABLE)), 0);
         memset(record + length, 'c', TWO_BYTES);
         expect(RECORD_OVER_65536, 1, both_check(record, TWO_BYTES + length, IN_FULL_TABLE), 1);
         make_shelf(dice, &shelf, 2, 2);

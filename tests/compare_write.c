@@ -41,7 +41,7 @@ static void write_bad_fixed(struct dice *dice, enum shape shape)
             if (chance(dice, 4))
                 damaged.fixed[below(dice, sheet.fixed_length)] = (uint8_t)roll(dice);
             if (chance(dice, 8))
-                damaged.count = 65 + below(dice, 3);
+                damaged.count = IN_MOST_FIELDS + 1 + below(dice, 3);
             write_sheet(&damaged, out, IN_LONGEST);
         }
     damaged = sheet;
@@ -93,11 +93,12 @@ static void write_bad_tables(struct dice *dice)
         both_write(&sheet, sheet.fixed_length, 3 * sheet.count, length, out, IN_LONGEST);
 }
 
-/* Tables under and over their count, and counts past 64. */
+/* Tables under and over their count, and counts past the most fields. */
 static void write_bad_counts(struct dice *dice)
 {
-    const size_t counts[] = {63, 64, 65, 66, 80, SIZE_MAX, SIZE_MAX / 3, SIZE_MAX / 3 + 1,
-                             SIZE_MAX / 3 + 2};
+    const size_t counts[] = {IN_MOST_FIELDS - 1, IN_MOST_FIELDS, IN_MOST_FIELDS + 1,
+                             IN_MOST_FIELDS + 2, SHEET_FIELDS, SIZE_MAX, SIZE_MAX / 3,
+                             SIZE_MAX / 3 + 1, SIZE_MAX / 3 + 2};
     struct sheet sheet;
     uint8_t out[RECORD_ROOM];
     make_sheet(dice, &sheet, (enum shape)below(dice, SHAPES), 0);
@@ -105,9 +106,12 @@ static void write_bad_counts(struct dice *dice)
         add_field(&sheet, 1 + below(dice, 900), (const uint8_t *)"xyz", below(dice, 3));
     for (size_t i = 0; i < sizeof counts / sizeof counts[0]; i++) {
         sheet.count = counts[i];
-        for (size_t length = 189; length <= 198; length++)
-            both_write(&sheet, sheet.fixed_length, length, sheet.contents_length, out,
-                       IN_LONGEST);
+        for (size_t length = IN_FULL_TABLE - 3; length <= IN_FULL_TABLE + 6; length++) {
+            uint64_t answer = both_write(&sheet, sheet.fixed_length, length,
+                                         sheet.contents_length, out, IN_LONGEST);
+            came_up(WRITTEN_OF_96, counts[i] == IN_MOST_FIELDS && answer == 0);
+            came_up(WRITTEN_OF_97_IS_8, counts[i] == IN_MOST_FIELDS + 1 && answer == 8);
+        }
         both_write(&sheet, sheet.fixed_length, 0, sheet.contents_length, out, IN_LONGEST);
     }
     for (size_t count = 0; count < 5; count++) {
@@ -155,7 +159,7 @@ static void write_length_limit(struct dice *dice)
         }
     for (size_t i = 0; i < 20; i++) {
         make_sheet(dice, &sheet, (enum shape)below(dice, SHAPES), 0);
-        for (size_t count = between(dice, 2, 64); count > 0; count--) {
+        for (size_t count = between(dice, 2, IN_MOST_FIELDS); count > 0; count--) {
             add_field(&sheet, 7000, content, 0);
             sheet.table[3 * sheet.count - 2] = below(dice, 3);
             sheet.table[3 * sheet.count - 1] = 1000 + below(dice, 25);

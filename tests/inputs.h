@@ -1,4 +1,4 @@
-/* Generated inputs: records of all kinds, titles, rosters, lent books and saved books. */
+/* Generated inputs: records of all kinds, titles, parts, rosters, lent books and saved books. */
 #ifndef INPUTS_H
 #define INPUTS_H
 
@@ -21,12 +21,22 @@ enum {
     IN_SAVED_LINES_COUNT = 4, IN_SAVED_SLIPS_COUNT = 2,
     IN_SENDER = 4, IN_RECIPIENT = 16, IN_REFERENCE = 24, IN_ORDER_COPIES = 61,
     IN_ORDER_REFERENCE = 36, IN_DELIVERY_REFERENCE = 50, IN_REPORT_REFERENCE = 38,
-    IN_FULL_TABLE = 192, IN_LONGEST = 1024, IN_MOST_COPIES = 9999,
+    IN_MOST_FIELDS = 96, IN_FULL_TABLE = 3 * IN_MOST_FIELDS, IN_LONGEST = 1024,
+    IN_MOST_COPIES = 9999,
     IN_NO_MARK = 0, IN_HELD = 1, IN_LET_GO = 2,
+    /* bundles: the mark, the fields of a loop and its shortest length, a lent part and a
+       price in it */
+    IN_TAX_MARK = 107, IN_MOST_PARTS = 8, IN_LOOP = 10, IN_SHORTEST_LOOP = 77,
+    IN_PART = 68, IN_FULL_PARTS = IN_MOST_PARTS * IN_PART,
+    IN_PART_MEDIUM = 1, IN_PART_NET = 2, IN_PART_LIST = 16, IN_PART_LENGTH = 30,
+    IN_PART_ARTICLE = 31, IN_PART_QUALIFIER = 66, IN_LONGEST_ARTICLE = 35,
+    IN_PRICE_DIGITS = 8, IN_PRICE_QUALIFIER = 9, IN_PRICE_CURRENCY = 11, IN_CURRENCY = 3,
+    IN_LEAST_DIGITS = 5, IN_MOST_DIGITS = 15, IN_PHYSICAL = 1, IN_DIGITAL = 2,
+    IN_TAX_ID = 1019,
     /* where the typographic marks of document 02 begin and end */
     IN_FIRST_TYPOGRAPHIC = 128, IN_LAST_TYPOGRAPHIC = 159,
-    SHEET_FIELDS = 80, SHEET_CONTENTS = 8192, RECORD_ROOM = 9000,
-    SHELF_LINES = 514, SHELF_SLIPS = 1026,
+    SHEET_FIELDS = IN_MOST_FIELDS + 24, SHEET_CONTENTS = 8192, RECORD_ROOM = 9000,
+    PARTS_ROOM = (IN_MOST_PARTS + 2) * IN_PART, SHELF_LINES = 514, SHELF_SLIPS = 1026,
     FAR_ROSTER = 65536, ROSTER_ROOM = FAR_ROSTER + (IN_MOST_SCHOOLS + 3) * IN_SCHOOL,
     SAVE_ROOM = 200000
 };
@@ -46,6 +56,15 @@ struct sheet {
     size_t count, table[3 * SHEET_FIELDS];
     uint8_t contents[SHEET_CONTENTS];
     size_t contents_length;
+};
+
+/* A bundle, as wq_write_parts takes it: a sheet and how many numbers of its table are lent, its
+   parts, how many of their bytes are lent, and their count. */
+struct bundle {
+    struct sheet sheet;
+    size_t table_length;
+    uint8_t parts[PARTS_ROOM];
+    size_t parts_length, count;
 };
 
 /* A lent book: rooms in bytes, and the used counts. */
@@ -110,6 +129,17 @@ void add_with_group(struct dice *dice, struct sheet *sheet, size_t id,
 void add_some_fields(struct dice *dice, struct sheet *sheet, size_t most);
 void make_sheet(struct dice *dice, struct sheet *sheet, enum shape shape, size_t most);
 size_t assemble(const struct sheet *sheet, uint8_t *record);
+
+/* Bundles: a part whose loop has so many bytes more than the shortest, or less; its loop; a
+   sheet with mark 6 and without 1019; a bundle of so many parts that can be written; what
+   writing it gives. */
+extern const size_t loop_ids[IN_LOOP];
+void make_part(struct dice *dice, size_t more, uint8_t *part);
+void add_loop(struct sheet *sheet, const uint8_t *part);
+void make_bundle_sheet(struct dice *dice, struct sheet *sheet, size_t most);
+void make_bundle(struct dice *dice, struct bundle *bundle, size_t count);
+size_t assemble_bundle(const struct bundle *bundle, uint8_t *record);
+uint64_t power_of_ten(size_t digits);
 
 /* Rosters. An account is an address and its qualifier. */
 const uint8_t *account_of(const uint8_t *record, size_t length);

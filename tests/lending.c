@@ -24,7 +24,7 @@ enum {
 struct tally tally;
 
 const char *const call_names[CALL_COUNT] = {
-    "check", "write", "book", "line", "save", "load", "account"
+    "check", "write", "parts", "w-parts", "book", "line", "save", "load", "account"
 };
 
 /* One lent piece: the bytes before the call, and where its copy stands on each side. */
@@ -36,7 +36,7 @@ struct piece {
 
 struct lending {
     enum call call;
-    size_t count, fields;
+    size_t count, fields, parts;
     struct piece pieces[MOST_PIECES];
 };
 
@@ -46,8 +46,9 @@ struct outcome { uint64_t values[MOST_VALUES]; };
 static size_t desk_words[SIDES][DESK_WORDS];
 
 /* What stands between the pieces: a line, a slip and schools that would count, fields,
-   digits, the rest of a kind that was cut. It changes from call to call and differs between the sides,
-   so that reading it shows. */
+   digits, the rest of a kind that was cut, the mark of a bundle and a loop, table entries with
+   ID 1019. It changes from call to call and differs between the sides, so that reading it
+   shows. */
 static const char guards[][GUARD + SLACK + 1] = {
     "43210     VD24000     VDA-17      9783442756841EN\1\0\0\0\0\0\0" "************************",
     "24000     VD43210     VD2024022670012345  0001\0\0\1\0" "000000000000000000000000000000",
@@ -61,6 +62,10 @@ static const char guards[][GUARD + SLACK + 1] = {
     "10110110110110110110110110110110110110110110110110110110110110110110110110110110",
     "01010101010101010101010101010101010101010101010101010101010101010101010101010101",
     "B101L101M101B101L101M101B101L101M101B101L101M101B101L101M101B101L101M101B101L101",
+    "6*10191*102990300*1030NO*1032EUR*102990300*1030LP*1032EUR*1101A*1102VB*1151PHY*9",
+    "\373\3\0\0\0\0\0\0" "\373\3\0\0\0\0\0\0" "\373\3\0\0\0\0\0\0"
+    "\373\3\0\0\0\0\0\0" "\373\3\0\0\0\0\0\0" "\373\3\0\0\0\0\0\0"
+    "\373\3\0\0\0\0\0\0" "\373\3\0\0\0\0\0\0",
     "\0"
 };
 
@@ -175,6 +180,23 @@ static struct outcome run_record_call(const struct lending *lending, size_t side
     return outcome;
 }
 
+static struct outcome run_parts_call(const struct lending *lending, size_t side)
+{
+    if (lending->call == PARTS) {
+        wq_parts_read read = side == 0 ? ref_parts(BYTES(0), BYTES(1))
+                                       : wq_parts(BYTES(0), BYTES(1));
+        struct outcome outcome = {{read.answer, read.place, read.parts}};
+        return outcome;
+    }
+    wq_written written = side == 0
+        ? ref_write_parts(BYTES(0), WORDS(1), lending->fields, BYTES(2), BYTES(3),
+                          lending->parts, BYTES(4))
+        : wq_write_parts(BYTES(0), WORDS(1), lending->fields, BYTES(2), BYTES(3),
+                         lending->parts, BYTES(4));
+    struct outcome outcome = {{written.answer, written.place, written.length}};
+    return outcome;
+}
+
 static struct outcome run_save_call(const struct lending *lending, size_t side)
 {
     if (lending->call == SAVE) {
@@ -214,6 +236,8 @@ static struct outcome run_call(const struct lending *lending, size_t side)
         return run_save_call(lending, side);
     case ACCOUNT:
         return run_account_call(lending, side);
+    case PARTS: case WRITE_PARTS:
+        return run_parts_call(lending, side);
     default:
         return run_record_call(lending, side);
     }
@@ -253,8 +277,10 @@ static void fail(const struct lending *lending, const struct outcome outcomes[SI
 {
     printf("DIFFERENCE in %s: %s (seed %" PRIu64 ", call %" PRIu64 ")\n",
            call_names[lending->call], what, tally.seed, tally.call);
-    if (lending->call == WRITE)
+    if (lending->call == WRITE || lending->call == WRITE_PARTS)
         printf("  fields %zu\n", lending->fields);
+    if (lending->call == WRITE_PARTS)
+        printf("  parts %zu\n", lending->parts);
     for (size_t i = 0; i < lending->count; i++)
         print_piece(&lending->pieces[i]);
     print_outcome("reference", &outcomes[0]);
@@ -384,6 +410,43 @@ uint64_t both_write(const struct sheet *sheet, size_t fixed_length, size_t table
     add_piece(&lending, "out", out, out_length, 1);
     uint64_t answer = run_both(&lending);
     memcpy(out, copy_of(&lending, 0, 3), out_length);
+    return answer;
+}
+
+/* The room keeps what it held before, but for the parts that were read. */
+uint64_t both_parts(const uint8_t *record, size_t length, uint8_t *parts, size_t parts_length)
+{
+    struct lending lending = lend(PARTS);
+    memset(parts, (int)(tally.call * 37 % 256), parts_length);
+    add_piece(&lending, "record", record, length, 1);
+    add_piece(&lending, "parts", parts, parts_length, 1);
+    uint64_t answer = run_both(&lending);
+    size_t filled = (size_t)tally.value * IN_PART;
+    insist(are_unchanged(&lending, 0, 1), "the record never changes");
+    insist(filled <= parts_length && memcmp(copy_of(&lending, 0, 1) + filled, parts + filled,
+                                            parts_length - filled) == 0,
+           "nothing changes behind the parts that are read");
+    memcpy(parts, copy_of(&lending, 0, 1), parts_length);
+    return answer;
+}
+
+uint64_t both_write_parts(const struct bundle *bundle, uint8_t *out, size_t out_length)
+{
+    enum { ONLY_READ = 4 };
+    const struct sheet *sheet = &bundle->sheet;
+    struct lending lending = lend(WRITE_PARTS);
+    lending.fields = sheet->count;
+    lending.parts = bundle->count;
+    memset(out, (int)(tally.call * 37 % 256), out_length);
+    add_piece(&lending, "fixed", sheet->fixed, sheet->fixed_length, 1);
+    add_piece(&lending, "table", sheet->table, bundle->table_length * sizeof (size_t),
+              sizeof (size_t));
+    add_piece(&lending, "contents", sheet->contents, sheet->contents_length, 1);
+    add_piece(&lending, "parts", bundle->parts, bundle->parts_length, 1);
+    add_piece(&lending, "out", out, out_length, 1);
+    uint64_t answer = run_both(&lending);
+    insist(are_unchanged(&lending, 0, ONLY_READ), "only the output of writing changes");
+    memcpy(out, copy_of(&lending, 0, ONLY_READ), out_length);
     return answer;
 }
 

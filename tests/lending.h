@@ -5,9 +5,9 @@
 
 #include "inputs.h"
 
-enum call { CHECK, WRITE, BOOK, LINE, SAVE, LOAD, ACCOUNT, CALL_COUNT };
+enum call { CHECK, WRITE, PARTS, WRITE_PARTS, BOOK, LINE, SAVE, LOAD, ACCOUNT, CALL_COUNT };
 
-enum { ANSWER_COUNT = 26, KEY_PARTS = 5, MOST_TABLE = 66000 };
+enum { ANSWER_COUNT = 28, KEY_PARTS = 5, MOST_TABLE = 66000 };
 
 /* The calls so far, how often each answer of each call was seen, where we are (the
    round's seed and the number of the call in it), and what the last call gave: the place,
@@ -25,6 +25,8 @@ extern const char *const call_names[CALL_COUNT];
 uint64_t both_check(const uint8_t *record, size_t length, size_t table_length);
 uint64_t both_write(const struct sheet *sheet, size_t fixed_length, size_t table_length,
                     size_t contents_length, uint8_t *out, size_t out_length);
+uint64_t both_parts(const uint8_t *record, size_t length, uint8_t *parts, size_t parts_length);
+uint64_t both_write_parts(const struct bundle *bundle, uint8_t *out, size_t out_length);
 uint64_t both_book(const uint8_t *record, size_t length, const struct roster *roster,
                    struct shelf *shelf);
 uint64_t both_line(const uint8_t *const parts[KEY_PARTS], const size_t lengths[KEY_PARTS],

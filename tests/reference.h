@@ -13,6 +13,15 @@ wq_written ref_write(const uint8_t *fixed, size_t fixed_length,
                      const uint8_t *contents, size_t contents_length,
                      uint8_t *out, size_t out_length);
 
+wq_parts_read ref_parts(const uint8_t *record, size_t record_length,
+                        uint8_t *parts, size_t parts_length);
+
+wq_written ref_write_parts(const uint8_t *fixed, size_t fixed_length,
+                           const size_t *table, size_t table_length, size_t fields,
+                           const uint8_t *contents, size_t contents_length,
+                           const uint8_t *parts, size_t parts_length, size_t count,
+                           uint8_t *out, size_t out_length);
+
 wq_booked ref_book(const uint8_t *record, size_t record_length,
                    const uint8_t *roster, size_t roster_length,
                    uint8_t *lines, size_t lines_length,

@@ -43,7 +43,7 @@ enum {
 
 /* Limits of records and of their optional part. */
 enum {
-    LONGEST_RECORD = 1024, MOST_FIELDS = 64, TABLE_STRIDE = 3,
+    LONGEST_RECORD = 1024, MOST_FIELDS = 96, TABLE_STRIDE = 3,
     ID_DIGITS = 4, FIELD_HEAD = 1 + ID_DIGITS, END_ID = 9999
 };
 
@@ -83,7 +83,7 @@ enum answer {
     REFERENCE_BLANK = 12, NOTHING_TO_BOOK = 13, LINE_EXISTS = 14, LINES_FULL = 15,
     NO_SUCH_LINE = 16, SLIP_REPEATED = 17, SLIP_DIFFERS = 18, SLIPS_FULL = 19,
     BOOK_UNSOUND = 20, ARRIVED_OVER_LIMIT = 21, SAVE_INVALID = 22, ROOM_TOO_SMALL = 23,
-    NOT_ON_ROSTER = 24, CEILING_PASSED = 25
+    NOT_ON_ROSTER = 24, CEILING_PASSED = 25, PARTS_BROKEN = 26, TOO_MANY_PARTS = 27
 };
 
 enum record_kind { NO_KIND, ORDER, DELIVERY, REPORT };
@@ -127,6 +127,18 @@ int ref_group_broken(const struct optional_field *fields, size_t count, size_t i
 struct verdict ref_judge_record(const uint8_t *record, size_t length,
                                 struct optional_field *fields, size_t *count);
 
+/* reference_write.c: the steps of writing, which writing with parts takes too. Of so many
+   fields as stand there the first `count` are judged. */
+size_t ref_first_bad_fixed(const uint8_t *fixed, size_t length);
+void ref_take_fields(const size_t *table, size_t count, struct optional_field *fields);
+struct verdict ref_judge_contents(enum record_kind kind, const struct optional_field *fields,
+                                  size_t count, size_t standing,
+                                  const uint8_t *contents, size_t contents_length);
+size_t ref_record_length(size_t fixed_length, const struct optional_field *fields, size_t count);
+uint8_t *ref_put_head(uint8_t *to, size_t id);
+uint8_t *ref_put_fields(uint8_t *to, const struct optional_field *fields, size_t count,
+                        const uint8_t *contents);
+
 /* reference_roster.c: the lent roster. The first entry with an account, or NULL. */
 int ref_roster_fits(size_t length);
 const uint8_t *ref_find_school(const uint8_t *roster, size_t length, const uint8_t *account);
@@ -148,6 +160,11 @@ static inline size_t get_le32(const uint8_t *bytes)
     return get_le16(bytes) | get_le16(bytes + 2) << 16;
 }
 
+static inline uint64_t get_le64(const uint8_t *bytes)
+{
+    return (uint64_t)get_le32(bytes) | (uint64_t)get_le32(bytes + 4) << 32;
+}
+
 static inline void put_le16(uint8_t *bytes, size_t number)
 {
     bytes[0] = (uint8_t)(number & 0xff);
@@ -158,6 +175,12 @@ static inline void put_le32(uint8_t *bytes, size_t number)
 {
     put_le16(bytes, number & 0xffff);
     put_le16(bytes + 2, number >> 16 & 0xffff);
+}
+
+static inline void put_le64(uint8_t *bytes, uint64_t number)
+{
+    put_le32(bytes, (size_t)(number & 0xffffffff));
+    put_le32(bytes + 4, (size_t)(number >> 32));
 }
 
 #endif

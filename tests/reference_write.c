@@ -14,7 +14,7 @@ static wq_written refused(enum answer answer, size_t place)
 
 /* The first fixed field that breaks its rule or holds a byte not allowed. A kind that is
    unknown, or a fixed part of another length than its kind's, breaks field 0. */
-static size_t first_bad_fixed(const uint8_t *fixed, size_t length)
+size_t ref_first_bad_fixed(const uint8_t *fixed, size_t length)
 {
     enum record_kind kind = ref_kind_of(fixed, length);
     if (kind == NO_KIND || length != ref_fixed_length(kind))
@@ -27,7 +27,7 @@ static size_t first_bad_fixed(const uint8_t *fixed, size_t length)
     return holding < broken ? holding : broken;
 }
 
-static void take_fields(const size_t *table, size_t count, struct optional_field *fields)
+void ref_take_fields(const size_t *table, size_t count, struct optional_field *fields)
 {
     for (size_t i = 0; i < count; i++) {
         fields[i].id = table[TABLE_STRIDE * i];
@@ -50,23 +50,31 @@ static int cannot_stand(const struct optional_field *field,
     return field->length > 0 && memchr(content, '*', field->length) != NULL;
 }
 
+static struct verdict found(enum answer answer, size_t index)
+{
+    struct verdict verdict;
+    verdict.answer = answer;
+    verdict.place = index;
+    return verdict;
+}
+
 /* 9 and 10 per field; its place is the index of the field. */
-static wq_written judge_contents(enum record_kind kind, const struct optional_field *fields,
-                                 size_t count, const uint8_t *contents, size_t contents_length)
+struct verdict ref_judge_contents(enum record_kind kind, const struct optional_field *fields,
+                                  size_t count, size_t standing,
+                                  const uint8_t *contents, size_t contents_length)
 {
     for (size_t i = 0; i < count; i++) {
         if (cannot_stand(&fields[i], contents, contents_length)
             || ref_content_broken(kind, &fields[i], contents))
-            return refused(CONTENT_BROKEN, i);
-        if (ref_group_broken(fields, count, i))
-            return refused(GROUP_BROKEN, i);
+            return found(CONTENT_BROKEN, i);
+        if (ref_group_broken(fields, standing, i))
+            return found(GROUP_BROKEN, i);
     }
-    return refused(DONE, 0);
+    return found(DONE, 0);
 }
 
 /* The length of the whole record, or anything over the longest where it passes that. */
-static size_t record_length_of(size_t fixed_length, const struct optional_field *fields,
-                               size_t count)
+size_t ref_record_length(size_t fixed_length, const struct optional_field *fields, size_t count)
 {
     size_t length = fixed_length + FIELD_HEAD;
     for (size_t i = 0; i < count && length <= LONGEST_RECORD; i++) {
@@ -77,7 +85,7 @@ static size_t record_length_of(size_t fixed_length, const struct optional_field 
     return length;
 }
 
-static uint8_t *put_head(uint8_t *to, size_t id)
+uint8_t *ref_put_head(uint8_t *to, size_t id)
 {
     *to = '*';
     for (size_t i = ID_DIGITS; i > 0; i--) {
@@ -87,18 +95,15 @@ static uint8_t *put_head(uint8_t *to, size_t id)
     return to + FIELD_HEAD;
 }
 
-static void put_record(uint8_t *to, const uint8_t *fixed, size_t fixed_length,
-                       const struct optional_field *fields, size_t count,
-                       const uint8_t *contents)
+uint8_t *ref_put_fields(uint8_t *to, const struct optional_field *fields, size_t count,
+                        const uint8_t *contents)
 {
-    memcpy(to, fixed, fixed_length);
-    to += fixed_length;
     for (size_t i = 0; i < count; i++) {
-        to = put_head(to, fields[i].id);
+        to = ref_put_head(to, fields[i].id);
         memcpy(to, contents + fields[i].place, fields[i].length);
         to += fields[i].length;
     }
-    put_head(to, END_ID);
+    return to;
 }
 
 /* Write: 5, 8, 23 for a table under its count, 9 and 10 per field, 1, 23. */
@@ -108,24 +113,26 @@ wq_written ref_write(const uint8_t *fixed, size_t fixed_length,
                      uint8_t *out, size_t out_length)
 {
     struct optional_field taken[MOST_FIELDS];
-    size_t bad = first_bad_fixed(fixed, fixed_length);
+    size_t bad = ref_first_bad_fixed(fixed, fixed_length);
     if (bad != NONE_BROKEN)
         return refused(FIXED_FIELD_BROKEN, bad);
     if (fields > MOST_FIELDS)
         return refused(TOO_MANY_FIELDS, MOST_FIELDS);
     if (table_length < TABLE_STRIDE * fields)
         return refused(ROOM_TOO_SMALL, 0);
-    take_fields(table, fields, taken);
-    wq_written written = judge_contents(ref_kind_of(fixed, fixed_length), taken, fields,
-                                        contents, contents_length);
-    if (written.answer != DONE)
-        return written;
-    size_t length = record_length_of(fixed_length, taken, fields);
+    ref_take_fields(table, fields, taken);
+    struct verdict verdict = ref_judge_contents(ref_kind_of(fixed, fixed_length), taken, fields,
+                                                fields, contents, contents_length);
+    if (verdict.answer != DONE)
+        return refused((enum answer)verdict.answer, verdict.place);
+    size_t length = ref_record_length(fixed_length, taken, fields);
     if (length > LONGEST_RECORD)
         return refused(TOO_LONG, 0);
     if (length > out_length)
         return refused(ROOM_TOO_SMALL, 0);
-    put_record(out, fixed, fixed_length, taken, fields, contents);
+    memcpy(out, fixed, fixed_length);
+    ref_put_head(ref_put_fields(out + fixed_length, taken, fields, contents), END_ID);
+    wq_written written = refused(DONE, 0);
     written.length = length;
     return written;
 }

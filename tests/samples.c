@@ -1,6 +1,6 @@
 /* Document 01's samples with the values it states, document 02's clerk and his roster, titles
-   with its typographic marks, and a supplier that answers with its own number, held against
-   both implementations. */
+   with its typographic marks, a supplier that answers with its own number, and the bundles of
+   documents 001 and 004, held against both implementations. */
 #include "lending.h"
 #include "reference.h"
 
@@ -32,6 +32,10 @@ struct side {
     wq_checked (*check)(const uint8_t *, size_t, size_t *, size_t);
     wq_written (*write)(const uint8_t *, size_t, const size_t *, size_t, size_t,
                         const uint8_t *, size_t, uint8_t *, size_t);
+    wq_parts_read (*parts)(const uint8_t *, size_t, uint8_t *, size_t);
+    wq_written (*write_parts)(const uint8_t *, size_t, const size_t *, size_t, size_t,
+                              const uint8_t *, size_t, const uint8_t *, size_t, size_t,
+                              uint8_t *, size_t);
     wq_booked (*book)(const uint8_t *, size_t, const uint8_t *, size_t, uint8_t *, size_t,
                       uint8_t *, size_t, size_t *);
     wq_told (*line)(const uint8_t *, size_t, const uint8_t *, size_t, const uint8_t *, size_t,
@@ -42,8 +46,9 @@ struct side {
 };
 
 static const struct side sides[] = {
-    {"reference", ref_check, ref_write, ref_book, ref_line, ref_account},
-    {"library", wq_check, wq_write, wq_book, wq_line, wq_account}
+    {"reference", ref_check, ref_write, ref_parts, ref_write_parts, ref_book, ref_line,
+     ref_account},
+    {"library", wq_check, wq_write, wq_parts, wq_write_parts, wq_book, wq_line, wq_account}
 };
 
 /* Reading: the record, its answer and place, and the number of fields. */
@@ -78,6 +83,52 @@ static const struct title_sample title_samples[] = {
     {"Faust\x7f", 4, 118}, {"Faust\x81", 4, 118}, {"Faust\x8d", 4, 118},
     {"Faust\x8f", 4, 118}, {"Faust\x90", 4, 118}, {"Faust\x9d", 4, 118},
     {"\x84" "Faust\x93 \x97 \x81 \x8d", 4, 123}
+};
+
+/* The bundles of documents 001 and 004, which have the same two parts, what reading the parts of
+   records near to them answers, and how many there are. The parts as they are lent: tax mark and
+   medium, net and list price with amount, number of digits, qualifier and currency, length of
+   the article, article, its qualifier. */
+#define BUNDLE_001(mark) \
+    "L10114914     VD33333     VD20150314982478    000185601     9783131464712EN0001" \
+    "000000000229900LPEUR00250000" mark "*1003KIENZLER*1029157600*1030NO*1032EUR"
+#define BUNDLE_004 \
+    "L10124000     VD900900    VD2017050624123456  0001202020    9783131464712EN0001" \
+    "000000000229900LPEUR002300006*1003MEIER*90901*904000000000*90430000000000000000"
+#define LOOP(tax, net, list, number, medium) \
+    "*1019" tax "*1029" net "*1032EUR*1029" list "*1032EUR*11019783131464712-" number \
+    "*1102VB*1151" medium
+#define PAPER LOOP("1", "126200*1030NO", "180000*1030LP", "1", "PHY")
+#define ONLINE LOOP("2", "31400*1030NO", "49900*1030LP", "2", "DIG")
+#define FREE LOOP("2", "31400*1030NO", "49900*1030FP", "2", "DIG")
+#define SHORT LOOP("0", "00000*1030NO", "00000*1030FP", "3", "PHY")
+#define NINE SHORT SHORT SHORT SHORT SHORT SHORT SHORT SHORT SHORT
+#define NO_BYTES "\0\0\0\0\0" "\0\0\0\0\0" "\0\0\0\0\0" "\0\0\0\0\0"
+static const char paper_part[] = "1\1" "\xf8\xec\1\0\0\0\0\0" "\6NOEUR" "\x20\xbf\2\0\0\0\0\0"
+    "\6LPEUR" "\17" "9783131464712-1" NO_BYTES "VB";
+static const char online_part[] = "2\2" "\xa8\x7a\0\0\0\0\0\0" "\5NOEUR" "\xec\xc2\0\0\0\0\0\0"
+    "\5LPEUR" "\17" "9783131464712-2" NO_BYTES "VB";
+struct bundle_sample { const char *record; uint64_t answer, parts; };
+static const struct bundle_sample bundle_samples[] = {
+    {BUNDLE_001("6") PAPER ONLINE END, 0, 2},
+    {BUNDLE_004 PAPER ONLINE END, 0, 2},
+    {BUNDLE_001("6") PAPER END, 0, 1},
+    {BUNDLE_001("6") PAPER FREE END, 0, 2},
+    {BUNDLE_001("0") PAPER ONLINE END, 0, 0},
+    {BUNDLE_001("1") NINE END, 0, 0},
+    {Y(SLIP, "0001", "0004"), 0, 0},
+    {X END, 0, 0},
+    {BUNDLE_001("6") END, 26, 0},
+    {BUNDLE_001("6") PAPER ONLINE "*9001O" END, 26, 0},
+    {BUNDLE_001("6") PAPER "*9001O" ONLINE END, 26, 0},
+    {BUNDLE_001("6") "*10191" PAPER ONLINE END, 26, 0},
+    {BUNDLE_001("6") PAPER ONLINE "*10191" END, 26, 0},
+    {BUNDLE_001("6") LOOP("1", "126200*1030LP", "180000*1030NO", "1", "PHY") END, 26, 0},
+    {BUNDLE_001("6") LOOP("1", "126200*1030NO", "180000*1030NO", "1", "PHY") END, 26, 0},
+    {BUNDLE_001("6") NINE END, 27, 0},
+    {BUNDLE_001("6") NINE "*9001O" END, 26, 0},
+    {BUNDLE_001("6") LOOP("3", "126200*1030NO", "180000*1030LP", "1", "PHY") END, 9, 0},
+    {BUNDLE_001("6") LOOP("1", "1262*1030NO", "180000*1030LP", "1", "PHY") END, 9, 0}
 };
 
 /* The desk program's sample: record, then answer, the five figures and whether the articles
@@ -162,6 +213,12 @@ static void run_read_samples(const struct side *side)
            "a 9999 inside a content is content");
 }
 
+static size_t fixed_length_of(const char *record)
+{
+    return record[0] == 'B' ? WQ_ORDER_LENGTH : record[0] == 'L' ? WQ_DELIVERY_LENGTH
+                                                                 : WQ_REPORT_LENGTH;
+}
+
 /* A title is read and written back as it was, or 4 in reading and 9 in writing. */
 static void run_title_sample(const struct side *side, const struct title_sample *sample)
 {
@@ -185,6 +242,58 @@ static void run_title_sample(const struct side *side, const struct title_sample 
     insist(!fields || (memcmp(table, told, sizeof told) == 0
                        && memcmp(out, record, length) == 0),
            "a title is told with its bytes and written back");
+}
+
+/* The record is written again from its fixed part, its fields before the loops and its parts. */
+static void write_bundle(const struct side *side, const char *record, const uint8_t *parts,
+                         size_t count)
+{
+    size_t table[IN_FULL_TABLE] = {0}, length = strlen(record);
+    uint8_t out[IN_LONGEST] = {0};
+    const uint8_t *bytes = (const uint8_t *)record;
+    wq_checked checked = side->check(bytes, length, table, IN_FULL_TABLE);
+    size_t fields = (size_t)checked.fields - count * IN_LOOP;
+    wq_written written = side->write_parts(bytes, fixed_length_of(record), table, 3 * fields,
+                                           fields, bytes, length, parts, count * IN_PART, count,
+                                           out, sizeof out);
+    tally.calls += 2;
+    if (written.answer != 0 || written.place != 0 || written.length != length
+        || memcmp(out, record, length) != 0)
+        differs(side, record, written.answer, written.place);
+}
+
+static void run_bundle_sample(const struct side *side, const struct bundle_sample *sample)
+{
+    uint8_t parts[IN_FULL_PARTS] = {0};
+    wq_parts_read read = side->parts((const uint8_t *)sample->record, strlen(sample->record),
+                                     parts, sizeof parts);
+    tally.calls++;
+    if (read.answer != sample->answer || read.parts != sample->parts
+        || (read.place != 0) != (read.answer == 9))
+        differs(side, sample->record, read.answer, read.place);
+    if (read.answer == 0)
+        write_bundle(side, sample->record, parts, (size_t)read.parts);
+}
+
+/* Both papers' bundles give the two parts that their tables explain, and write them back. */
+static void run_bundle_samples(const struct side *side)
+{
+    insist(sizeof paper_part == IN_PART + 1 && sizeof online_part == IN_PART + 1,
+           "a lent part has 68 bytes");
+    for (size_t i = 0; i < sizeof bundle_samples / sizeof bundle_samples[0]; i++)
+        run_bundle_sample(side, &bundle_samples[i]);
+    for (size_t i = 0; i < 2; i++) {
+        const char *record = bundle_samples[i].record;
+        uint8_t parts[IN_FULL_PARTS];
+        memset(parts, 7, sizeof parts);
+        side->parts((const uint8_t *)record, strlen(record), parts, sizeof parts);
+        tally.calls++;
+        insist(memcmp(parts, paper_part, IN_PART) == 0
+               && memcmp(parts + IN_PART, online_part, IN_PART) == 0,
+               "the papers' bundles have a paper part and an online part");
+        insist(parts[2 * IN_PART] == 7 && parts[sizeof parts - 1] == 7,
+               "the room behind the parts is as it was");
+    }
 }
 
 /* The figures of the samples' line by its key. */
@@ -267,6 +376,7 @@ void run_samples(void)
         run_read_samples(&sides[i]);
         for (size_t j = 0; j < sizeof title_samples / sizeof title_samples[0]; j++)
             run_title_sample(&sides[i], &title_samples[j]);
+        run_bundle_samples(&sides[i]);
         run_bookings(&sides[i], desk_sample, sizeof desk_sample / sizeof desk_sample[0]);
         run_bookings(&sides[i], own_number_sample,
                      sizeof own_number_sample / sizeof own_number_sample[0]);
