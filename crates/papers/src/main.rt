@@ -25,10 +25,12 @@ use writing::answer::Written;
 const CR: u8 = 13;
 
 const LF: u8 = 10;
+// The numbers of a table with room for every record.
+const FULL_TABLE: usize = 288;
 
 // An optional field that a table lists.
-fn show_field(s: &[u8], table: &[usize; 192], i: usize) {
-    if 64 <= i {
+fn show_field(s: &[u8], table: &[usize; FULL_TABLE], i: usize) {
+    if MOST_FIELDS <= i {
         return;
     }
     let id = table[i * 3];
@@ -45,7 +47,7 @@ fn show_field(s: &[u8], table: &[usize; 192], i: usize) {
     text(b"]\n");
 }
 
-fn show_fields(s: &[u8], table: &[usize; 192], fields: usize) {
+fn show_fields(s: &[u8], table: &[usize; FULL_TABLE], fields: usize) {
     let mut i: usize = 0;
     while i < fields {
         show_field(s, table, i);
@@ -68,7 +70,7 @@ fn show_written(how: &[u8], w: Written, out: &[u8; 1024], s: &[u8]) {
 }
 
 // The record written from its fixed part's bytes, and from its typed values, with the table that the check filled.
-fn write_back(s: &[u8], table: &[usize; 192], fields: usize) {
+fn write_back(s: &[u8], table: &[usize; FULL_TABLE], fields: usize) {
     let mut out = [0u8; 1024];
     match kind_of(s) {
         Kinded::Unknown => text(b"  unknown kind\n"),
@@ -80,7 +82,7 @@ fn write_back(s: &[u8], table: &[usize; 192], fields: usize) {
     }
 }
 
-fn write_values(k: Kind, s: &[u8], table: &[usize; 192], fields: usize) {
+fn write_values(k: Kind, s: &[u8], table: &[usize; FULL_TABLE], fields: usize) {
     let mut out = [0u8; 1024];
     match k {
         Kind::Order => {
@@ -104,7 +106,7 @@ fn write_values(k: Kind, s: &[u8], table: &[usize; 192], fields: usize) {
 
 // A record by its answer, values and optional fields.
 fn show(s: &[u8]) {
-    let mut table = [0usize; 192];
+    let mut table = [0usize; FULL_TABLE];
     let checked = check(s, &mut table);
     text(part(s, 0, 4));
     text(b" answer ");
@@ -117,6 +119,7 @@ fn show(s: &[u8]) {
     show_values(s);
     show_fields(s, &table, checked.fields);
     write_back(s, &table, checked.fields);
+    show_parts(s, &table, checked.fields);
 }
 
 // Where the line that starts at a place ends: at its CR LF, or at the end of the input.

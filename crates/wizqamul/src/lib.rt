@@ -4,6 +4,8 @@ ghost use mathlib.Core.Path.{_≡_};
 ghost use mathlib.Core.List.{[], _∷_};
 ghost use Rattle.record.specs.Read.{outcome as read, check};
 ghost use Rattle.writing.specs.Write.{outcome as written, write};
+ghost use Rattle.parts.specs.Read.{outcome as told, readParts};
+ghost use Rattle.parts.specs.Write.{writeParts};
 ghost use Rattle.book.specs.Lent.{lent};
 ghost use Rattle.book.specs.Booking.{outcome as booked, book};
 ghost use Rattle.book.specs.Asked.{lineAsked};
@@ -12,6 +14,7 @@ ghost use Rattle.save.specs.Load.{outcome as loaded, load};
 ghost use Rattle.roster.specs.Schools.{accountTold};
 use book::answer::Booked;
 use book::answer::Told;
+use parts::answer::PartsRead;
 use record::answer::Checked;
 use roster::schools::AccountTold;
 use roster::schools::School;
@@ -42,6 +45,30 @@ pub extern "C" fn wq_write(
     ensures { λ r. ⌜ written r (now (out .exit)) ≡ write (now (fixed .entry)) (now (table .entry)) fields (now (contents .entry)) (now (out .entry)) ⌝ }
 {
     writer::write(fixed, table, fields, contents, out)
+}
+
+// Reads the parts of a bundle into a room, 68 bytes each.
+#[no_mangle]
+pub extern "C" fn wq_parts(record: &[u8], parts: &mut [u8]) -> PartsRead
+    ensures { λ r. ⌜ told r (now (parts .exit)) ≡ readParts (now («record» .entry)) (now (parts .entry)) ⌝ }
+{
+    unpacking::read_parts(record, parts)
+}
+
+// Writes a record with parts behind the fields of its table.
+#[no_mangle]
+pub extern "C" fn wq_write_parts<'a>(
+    fixed: &'a [u8],
+    table: &[usize],
+    fields: usize,
+    contents: &'a [u8],
+    parts: &'a [u8],
+    count: usize,
+    out: &mut [u8],
+) -> Written
+    ensures { λ r. ⌜ written r (now (out .exit)) ≡ writeParts (now (fixed .entry)) (now (table .entry)) fields (now (contents .entry)) (now (parts .entry)) count (now (out .entry)) ⌝ }
+{
+    packing::write_parts(fixed, table, fields, contents, parts, count, out)
 }
 
 // Books a record, for a school of the roster, into the lent book.
