@@ -3,10 +3,8 @@ use mathlib.Core.Path.{_≡_, _∙_, ap, sym, refl}
 use mathlib.Core.Bool.{true, false}
 use mathlib.Core.List.{List, _++_}
 use Prim.Native.Nat.{ℕ, _*_, _≤_, _<_}
-use native.Mathlib.Omega.{arith}
 use borrow.Author.Tests.{lt-ltb, le-ltb}
 use lib.ListN.{length, drop}
-use Rattle.record.specs.Layout.{kindOf}
 use Rattle.record.specs.Answers.{refusalNumber, refusalPlace, checkedOf}
 use Rattle.record.specs.Fields.{Optional}
 use Rattle.record.specs.Read.{judged, entryWidth, optionalStart, optionalFields, Outcome, outcome as checks, check}
@@ -49,15 +47,15 @@ module _ (s room : List ℕ) where
       no-bundle b = rw (le-ltb _ _ wide, e, b)
 
       -- 26 and 27, or the parts in front of the room
-      module _ (b : isBundle s ≡ true) where
-        pub parts-refused : (r : Refusal) → loopsJudged (loopsOf (optionalFields n s)) ≡ Refused r → readParts s room ≡ outcome (readOf (Refused r)) room
+      module _ (b : isBundle s ≡ true) (fs : List Optional) (named : fs ≡ optionalFields n s) where
+        pub parts-refused : (r : Refusal) → loopsJudged (loopsOf fs) ≡ Refused r → readParts s room ≡ outcome (readOf (Refused r)) room
         unfolding readParts bundleRead partsJudged roomAfter
-        parts-refused r j = rw (le-ltb _ _ wide, e, b, j)
+        parts-refused r j = rw (le-ltb _ _ wide, e, b, ← named, j)
 
-        pub parts-read : (m : ℕ) → loopsJudged (loopsOf (optionalFields n s)) ≡ Fits m
-            → readParts s room ≡ outcome (readOf (Fits m)) (roomOf (partsOf m (loopsOf (optionalFields n s))) ++ drop (m * partWidth) room)
+        pub parts-read : (m : ℕ) → loopsJudged (loopsOf fs) ≡ Fits m
+            → readParts s room ≡ outcome (readOf (Fits m)) (roomOf (partsOf m (loopsOf fs)) ++ drop (m * partWidth) room)
         unfolding readParts bundleRead partsJudged roomAfter
-        parts-read m j = rw (le-ltb _ _ wide, e, b, j)
+        parts-read m j = rw (le-ltb _ _ wide, e, b, ← named, j)
 
 -- what a check with a large table said, and the table that it left
 module _ (s lent : List ℕ) (large : LargeTable lent) (r : Checked) (t : List ℕ) (q : checks r t ≡ check s lent) where

@@ -40,27 +40,27 @@ module _ (contents table : List ℕ) (count first : ℕ) (q : first ≡ othersAm
   pub first-few : first ≤ count
   first-few = omega (arith, q, others-few (entries count table), entries-length count table)
 
-  both : first + (count - first) ≡ count
-  both = omega (arith, first-few)
-
-  pub loops-from : loopsOf (optionalOf contents (entries count table)) ≡ optionalOf contents (entries (count - first) (drop (first * entryWidth) table))
+  -- where m are left, they are the m that the table names from there on
+  pub loops-from : (m : ℕ) → first + m ≡ count
+      → loopsOf (optionalOf contents (entries count table)) ≡ optionalOf contents (entries m (drop (first * entryWidth) table))
   unfolding loopsOf
-  loops-from =
-      ap (λ (m : ℕ). drop m (optionalOf contents (entries count table))) (others-same contents (entries count table) ∙ sym q)
-      ∙ ap (λ (m : ℕ). drop first (optionalOf contents (entries m table))) (sym both)
-      ∙ fields-drop contents first (count - first) table
+  loops-from m e =
+      ap (λ (k : ℕ). drop k (optionalOf contents (entries count table))) (others-same contents (entries count table) ∙ sym q)
+      ∙ ap (λ (k : ℕ). drop first (optionalOf contents (entries k table))) (sym e)
+      ∙ fields-drop contents first m table
 
-  -- are so many
+  -- their contents are inside the record, where all are
+  pub from-inside : (m : ℕ) → first + m ≡ count → allInside contents (entries count table) ≡ true
+      → allInside contents (entries m (drop (first * entryWidth) table)) ≡ true
+  from-inside m e a =
+      inside-drop contents first m table (ap (λ (k : ℕ). allInside contents (entries k table)) e ∙ a)
+
+  -- how many they are
   pub loops-long : length (loopsOf (optionalOf contents (entries count table))) ≡ count - first
   loops-long =
-      ap length loops-from
+      ap length (loops-from (count - first) (omega (arith, first-few)))
       ∙ fields-length contents (entries (count - first) (drop (first * entryWidth) table))
       ∙ entries-length (count - first) (drop (first * entryWidth) table)
-
-  -- and have their contents inside the record, where all have
-  pub from-inside : allInside contents (entries count table) ≡ true → allInside contents (entries (count - first) (drop (first * entryWidth) table)) ≡ true
-  from-inside a =
-      inside-drop contents first (count - first) table (ap (λ (m : ℕ). allInside contents (entries m table)) both ∙ a)
 
 -- 26, then 27, of n fields
 module _ (fs : List Optional) (n : ℕ) (long : length fs ≡ n) where
@@ -87,7 +87,7 @@ module _ (fs : List Optional) (n : ℕ) (long : length fs ≡ n) where
         unfolding loopsJudged wholeLoops
         loops-fit h = rw (long, ne-eqb _ _ some, eq-eqb _ _ even, whole, le-ltb _ _ h)
 
--- fields that n parts are told of are n loops, and no more than the most
+-- fields that n parts are told of passed the tests
 told : (a b c : Bool) (m n : ℕ) → pick a (Refused Broken) (pick b (pick c (Refused TooMany) (Fits m)) (Refused Broken)) ≡ Fits n
     → (b ≡ true) × (c ≡ false) × (m ≡ n)
 told true b c m n e = let z : _≡_ {A = ℕ} 0 1 = cc in absurd (omega arith)
@@ -95,6 +95,7 @@ told false true true m n e = let z : _≡_ {A = ℕ} 0 1 = cc in absurd (omega a
 told false true false m n e = (refl, refl, cc)
 told false false c m n e = let z : _≡_ {A = ℕ} 0 1 = cc in absurd (omega arith)
 
+-- so whole loops, and how many
 loops-told : (fs : List Optional) (n : ℕ) → loopsJudged fs ≡ Fits n → (length fs ≡ n * loopFields) × (n ≤ mostParts)
 unfolding loopsJudged wholeLoops
 loops-told fs n e =
@@ -106,28 +107,29 @@ loops-told fs n e =
 
 -- a table's fields with n parts, where its last n loops stand
 module _ (contents table : List ℕ) (count n : ℕ) (e : loopsJudged (loopsOf (optionalOf contents (entries count table))) ≡ Fits n) where
+  -- as many fields are left as n loops have
   long : count - othersAmong (entries count table) ≡ n * loopFields
   long = sym (loops-long contents table count _ refl) ∙ loops-told _ n e .0
 
+  -- n is no more than the most
   pub parts-few : n ≤ mostParts
   parts-few = loops-told _ n e .1
 
+  -- n loops are no more fields than there are
   pub parts-there : n * loopFields ≤ count
   parts-there = omega (arith, long)
 
+  -- what stands before them, and with them, is all
   first : count - n * loopFields ≡ othersAmong (entries count table)
   first = omega (arith, long, first-few contents table count _ refl)
 
-  last : count - (count - n * loopFields) ≡ n * loopFields
-  last = omega (arith, parts-there)
+  behind : count - n * loopFields + n * loopFields ≡ count
+  behind = omega (arith, parts-there)
 
+  -- they are the last n loops, with their contents inside the record, where all are
   pub parts-from : loopsOf (optionalOf contents (entries count table)) ≡ optionalOf contents (entries (n * loopFields) (drop ((count - n * loopFields) * entryWidth) table))
-  parts-from =
-      loops-from contents table count (count - n * loopFields) first
-      ∙ ap (λ (m : ℕ). optionalOf contents (entries m (drop ((count - n * loopFields) * entryWidth) table))) last
+  parts-from = loops-from contents table count (count - n * loopFields) first (n * loopFields) behind
 
   pub parts-inside : allInside contents (entries count table) ≡ true
       → allInside contents (entries (n * loopFields) (drop ((count - n * loopFields) * entryWidth) table)) ≡ true
-  parts-inside a =
-      ap (λ (m : ℕ). allInside contents (entries m (drop ((count - n * loopFields) * entryWidth) table))) (sym last)
-      ∙ from-inside contents table count (count - n * loopFields) first a
+  parts-inside = from-inside contents table count (count - n * loopFields) first (n * loopFields) behind

@@ -1,12 +1,9 @@
 -- `unpacking::judge_loops` meets its contract: the fields from the first that a loop may begin with on are none, no whole loops, too many, or so many.
-use mathlib.Core.Path.{_≡_, _∙_, ap, sym}
-use mathlib.Core.Bool.{true, false}
-use Prim.Native.Nat.{ℕ, _-_, _*_, _/_, _%_}
+use mathlib.Core.Path.{_≡_, sym}
+use Prim.Native.Nat.{_+_, _-_, _*_, _/_, _%_}
 use native.Mathlib.Omega.{arith}
-use lib.ListN.{length, drop}
+use lib.ListN.{length}
 use Rattle.cells.proofs.Bools.{is-not, is-so}
-use Rattle.record.specs.Read.{entryWidth}
-use Rattle.writing.specs.Widths.{allInside}
 use Rattle.writing.specs.Write.{entries, optionalOf}
 use Rattle.parts.specs.Loops.{loopFields, areLoops, loopsOf}
 use Rattle.unpacking.proofs.Judged.{first-few, loops-from, loops-long, from-inside, loops-none, loops-uneven, loops-broken, loops-many, loops-fit}
@@ -21,39 +18,28 @@ left-long c =
     let a = c .before .before .before .args in
     loops-long (a .contents .now) (a .table .now) (a .count) _ (c .others-among .ensures)
 
--- all of them are in the loops that are asked for
+-- whole loops are all of them
 even : (c : tie.Else2) → let o = c .before .before in
-    let n = o .before .before .before .args .count - o .others-among .result in
-    n / loopFields * loopFields ≡ n
+    let first = o .others-among .result in
+    let count = o .before .before .before .args .count in
+    first + (count - first) / loopFields * loopFields ≡ count
 even c =
     let o = c .before .before in
-    let n = o .before .before .before .args .count - o .others-among .result in
-    let h : n % loopFields ≡ 0 = c .if2 .left in
-    omega (arith, h)
-
--- their contents are inside
-whole-inside : (c : tie.Else2) → let o = c .before .before in
     let a = o .before .before .before .args in
-    let n = a .count - o .others-among .result in
-    allInside (a .contents .now) (entries (n / loopFields * loopFields) (drop (o .others-among .result * entryWidth) (a .table .now))) ≡ true
-whole-inside c =
-    let o = c .before .before in
-    let start = o .before .before .before in
-    let a = start .args in
-    rw (even c) (from-inside (a .contents .now) (a .table .now) (a .count) _ (o .others-among .ensures) (start .pre .2))
+    let first = o .others-among .result in
+    let h : (a .count - first) % loopFields ≡ 0 = c .if2 .left in
+    omega (arith, h, first-few (a .contents .now) (a .table .now) (a .count) first (o .others-among .ensures))
 
--- and what is said of them
+-- what is said of them
 looped : (c : tie.After-are-loops) → let o = c .before .before .before in
     let a = o .before .before .before .args in
-    let n = a .count - o .others-among .result in
-    c .are-loops .result ≡ areLoops (n / loopFields) (loopsOf (optionalOf (a .contents .now) (entries (a .count) (a .table .now))))
+    c .are-loops .result
+    ≡ areLoops ((a .count - o .others-among .result) / loopFields) (loopsOf (optionalOf (a .contents .now) (entries (a .count) (a .table .now))))
 looped c =
     let o = c .before .before .before in
     let a = o .before .before .before .args in
-    let first = o .others-among .result in
-    c .are-loops .ensures
-    ∙ ap (λ (m : ℕ). areLoops ((a .count - first) / loopFields) (optionalOf (a .contents .now) (entries m (drop (first * entryWidth) (a .table .now))))) (even (c .before))
-    ∙ ap (areLoops ((a .count - first) / loopFields)) (sym (loops-from (a .contents .now) (a .table .now) (a .count) first (o .others-among .ensures)))
+    rw (loops-from (a .contents .now) (a .table .now) (a .count) (o .others-among .result) (o .others-among .ensures) _ (even (c .before)))
+    (c .are-loops .ensures)
 
 others-among-requires : tie.Need-others-among-requires
 others-among-requires c κs = search needs
@@ -78,8 +64,8 @@ are-loops-requires c κs =
     let o = c .before .before in
     let start = o .before .before .before in
     let a = start .args in
-    let few = first-few (a .contents .now) (a .table .now) (a .count) _ (o .others-among .ensures) in
-    (omega (arith, few), omega (arith, few), whole-inside c)
+    let e = even c in
+    (omega arith, omega arith, from-inside (a .contents .now) (a .table .now) (a .count) _ (o .others-among .ensures) _ e (start .pre .2))
 
 returns-3 : tie.Need-returns-3
 returns-3 c =

@@ -1,22 +1,20 @@
 -- `unpacking::read_parts` meets its contract: a room too small, a record refused, no bundle, loops refused, or the parts in the room.
 use mathlib.Core.Path.{_≡_, _∙_, ap, sym}
 use mathlib.Core.Bool.{true}
-use mathlib.Core.List.{List, _++_}
-use Prim.Native.Nat.{ℕ, _*_, _≤_}
+use mathlib.Core.List.{List}
+use Prim.Native.Nat.{ℕ}
 use native.Mathlib.Omega.{arith}
-use lib.ListN.{drop, replicate}
+use lib.ListN.{replicate}
 use Rattle.cells.proofs.Bools.{is-not, is-so}
-use Rattle.record.specs.Fields.{Optional}
-use Rattle.record.specs.Read.{judged, optionalFields, entryWidth}
+use Rattle.record.specs.Read.{judged, optionalFields}
 use Rattle.record.specs.declared.answer.Verdict.the-variants.{Fits as Holds}
 use Rattle.reader.proofs.Fitting.{fits-count}
 use Rattle.writing.specs.Widths.{allInside}
 use Rattle.writing.specs.Write.{entries, optionalOf}
-use Rattle.parts.specs.Loops.{loopFields, loopsOf}
-use Rattle.parts.specs.Part.{partWidth, partsOf, roomOf}
-use Rattle.parts.specs.Read.{loopsJudged, Outcome, outcome}
+use Rattle.parts.specs.Loops.{loopsOf}
+use Rattle.parts.specs.Read.{loopsJudged, outcome}
 use Rattle.parts.specs.declared.answer.PartsRead.{PartsRead}
-use Rattle.parts.specs.declared.answer.Verdict.the-variants.{Refused, Fits}
+use Rattle.parts.specs.declared.answer.Verdict.the-variants.{Fits}
 use Rattle.unpacking.proofs.Judged.{parts-few, parts-there, parts-from, parts-inside}
 use Rattle.unpacking.proofs.Bundles.{small-room, no-bundle, parts-refused, parts-read, not-read, record-holds, fields-named, fields-inside}
 use borrow.Author.Needs.{needs}
@@ -144,8 +142,8 @@ returns-4 c =
     let f = b .before in
     let a = f .before .before .before .before .before .before .before .before .args in
     ap (λ (r : PartsRead). outcome r (a .room .now)) (c .read-of3 .ensures)
-    ∙ sym (parts-refused (a .s .now) (a .room .now) (f .before .before .before .before .before .if1 .left) _ (holds f) (is-so (b .is-bundle .ensures) (j .before .before .if3 .left)) _
-    (ap (λ (fs : List Optional). loopsJudged (loopsOf fs)) (sym (named f)) ∙ sym (j .judge-loops .ensures) ∙ c .before .before .r .given .1))
+    ∙ sym (parts-refused (a .s .now) (a .room .now) (f .before .before .before .before .before .if1 .left) _ (holds f) (is-so (b .is-bundle .ensures) (j .before .before .if3 .left)) _ (named f) _
+    (sym (j .judge-loops .ensures) ∙ c .before .before .r .given .1))
 
 same-length : tie.Need-same-length
 same-length c = search needs
@@ -159,12 +157,9 @@ returns-5 c =
     let k = f .before .before .before in
     let a = k .before .before .before .before .before .args in
     let m = n .n .given .0 .0 in
-    let all = ap loopsOf (named f) in
-    let parts = sym (parts-from (a .s .now) (k .check .last .1 .0) (k .check .result .fields) m (verdict n)) ∙ all in
-    let room = filled .fill .ensures ∙ ap (λ (fs : List Optional). roomOf (partsOf m fs) ++ drop (m * partWidth) (a .room .now)) parts in
+    let room = rw (← parts-from (a .s .now) (k .check .last .1 .0) (k .check .result .fields) m (verdict n)) at (filled .fill .ensures) in
+    rw (parts-read (a .s .now) (a .room .now) (k .before .before .if1 .left) _ (holds f) (is-so (b .is-bundle .ensures) (n .before .before .before .before .if3 .left)) _ (named f) m (verdict n))
     (λ i. outcome (c .read-of4 .ensures i) (room i))
-    ∙ sym (parts-read (a .s .now) (a .room .now) (k .before .before .if1 .left) _ (holds f) (is-so (b .is-bundle .ensures) (n .before .before .before .before .if3 .left)) m
-    (ap loopsJudged (sym all) ∙ verdict n))
 
 pub read-parts-spec : {M : Type 1} → statement M
 read-parts-spec =

@@ -1,8 +1,6 @@
 -- `unpacking::fields::price_from` meets its contract: each value is taken from its own field.
 use mathlib.Core.Path.{_∙_, ap}
 use native.Mathlib.Omega.{arith}
-use Prim.Native.Nat.{ℕ}
-use mathlib.Core.List.{List}
 use lib.ListN.{length, take}
 use Rattle.rules.specs.Values.{priceOf}
 use Rattle.parts.specs.Part.{mostDigits, fitted}
