@@ -1,6 +1,6 @@
 // Reading the parts of a bundle: the public call, over a record and a lent room.
 pub mod entry;
-pub mod values;
+pub mod fields;
 
 ghost use mathlib.Core.Path.{_≡_};
 ghost use mathlib.Core.Bool.{true};
@@ -15,7 +15,7 @@ ghost use Rattle.parts.specs.Loops.{loopFields, loopsOf};
 ghost use Rattle.parts.specs.Part.{partWidth, partsOf, roomOf};
 ghost use Rattle.parts.specs.Read.{loopsJudged, outcome, readParts};
 use crate::entry::put_part;
-use crate::values::part_of;
+use crate::fields::part_of;
 use parts::answer::PartsRead;
 use parts::answer::Refusal;
 use parts::answer::Verdict;
