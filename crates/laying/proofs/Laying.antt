@@ -1,0 +1,1 @@
+-- Parts laid out one after the other.

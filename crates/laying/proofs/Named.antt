@@ -1,0 +1,1 @@
+-- The fields that the table of laid parts names.

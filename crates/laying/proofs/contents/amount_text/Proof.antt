@@ -1,0 +1,40 @@
+-- `laying::contents::amount_text` meets its contract: the digits stand in front of the zeros, or zeros stand alone.
+use mathlib.Core.Path.{_∙_, ap, sym}
+use native.Mathlib.Omega.{arith}
+use Rattle.writing.specs.Digits.{unwritable}
+use Rattle.writing.proofs.Decimals.{number-length}
+use Rattle.parts.specs.Part.{mostDigits, fitted}
+use Rattle.laying.proofs.Texts.{fills-whole, amount-written, amount-broken}
+use borrow.Author.Needs.{needs}
+use Rattle.laying.proofs.contents.amount_text.Statement.{statement}
+use Rattle.laying.proofs.contents.amount_text.Tie as tie
+
+cast-digits : tie.Need-cast-digits
+cast-digits c = search needs
+
+slice-aggregate-put-number : tie.Need-slice-aggregate-put-number
+slice-aggregate-put-number c = search needs
+
+power-requires : tie.Need-power-requires
+power-requires c κs = search needs
+
+put-number-requires : tie.Need-put-number-requires
+put-number-requires c κs = search needs
+
+returns : tie.Need-returns
+returns c = ?
+
+returns-2 : tie.Need-returns-2
+unfolding fitted unwritable
+returns-2 c = rw (amount-broken (c .before .before .args .p) (c .if1 .left))
+
+pub amount-text-spec : {M : Type 1} → statement M
+amount-text-spec =
+    tie.close
+    (tie.spec
+    cast-digits
+    slice-aggregate-put-number
+    power-requires
+    put-number-requires
+    returns
+    returns-2)
