@@ -22,7 +22,14 @@ put-number-requires : tie.Need-put-number-requires
 put-number-requires c κs = search needs
 
 returns : tie.Need-returns
-returns c = ?
+returns c =
+    let number = c .before in
+    let start = number .before .before .before .before .before in
+    let p = start .args .p in
+    let l = number-length (p .digits) (p .amount .0) in
+    number .put-number .ensures
+    ∙ fills-whole mostDigits _ (omega arith)
+    ∙ ap (fitted mostDigits) (sym (amount-written p (number .before .before .before .if1 .taken)))
 
 returns-2 : tie.Need-returns-2
 unfolding fitted unwritable
