@@ -1,7 +1,6 @@
 -- `laying::contents::amount_text` meets its contract: the digits stand in front of the zeros, or zeros stand alone.
-use mathlib.Core.Path.{_∙_, ap, sym}
 use native.Mathlib.Omega.{arith}
-use Rattle.writing.specs.Digits.{unwritable}
+use Rattle.writing.specs.Digits.{unwritable, numberBytes}
 use Rattle.writing.proofs.Decimals.{number-length}
 use Rattle.parts.specs.Part.{mostDigits, fitted}
 use Rattle.laying.proofs.Texts.{fills-whole, amount-written, amount-broken}
@@ -26,10 +25,8 @@ returns c =
     let number = c .before in
     let start = number .before .before .before .before .before in
     let p = start .args .p in
-    let l = number-length (p .digits) (p .amount .0) in
-    number .put-number .ensures
-    ∙ fills-whole mostDigits _ (omega arith)
-    ∙ ap (fitted mostDigits) (sym (amount-written p (number .before .before .before .if1 .taken)))
+    rw (number .put-number .ensures, amount-written p (number .before .before .before .if1 .taken))
+    (fills-whole mostDigits (numberBytes (p .digits) (p .amount .0)) (rw number-length (omega arith)))
 
 returns-2 : tie.Need-returns-2
 unfolding fitted unwritable

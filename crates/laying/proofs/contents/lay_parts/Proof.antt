@@ -1,10 +1,10 @@
 -- `laying::contents::lay_parts` meets its contract. The invariant: the parts that are left make of the texts and of the table what all of them made.
 use mathlib.Core.Path.{_≡_, _∙_, refl, sym, ap}
-use Prim.Native.Nat.{_+_, _-_, _*_, _≤_}
+use Prim.Native.Nat.{_-_, _*_, _≤_}
 use native.Mathlib.Nat.{sub-zero}
 use native.Mathlib.Omega.{arith}
 use lib.ListN.{length}
-use lib.Seq.{sets, length-sets}
+use lib.Seq.{sets}
 use Rattle.parts.specs.Part.{partWidth}
 use Rattle.laying.specs.Laid.{laidWidth, listedWidth, laidParts, listedParts}
 use Rattle.laying.proofs.Laying.{laid-next, laid-end, listed-next, listed-end}

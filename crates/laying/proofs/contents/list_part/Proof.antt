@@ -1,5 +1,4 @@
 -- `laying::contents::list_part` meets its contract: each entry has the ID of its member, and the place and the length of its content.
-use mathlib.Core.Path.{_∙_, sym}
 use native.Mathlib.Nat.{add-assoc}
 use Rattle.parts.specs.Loops.{loop}
 use Rattle.parts.specs.Fields.{partTexts, withIds, partFields}
