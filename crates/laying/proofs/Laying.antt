@@ -2,7 +2,7 @@
 use mathlib.Core.Path.{_≡_, _∙_, refl, ap}
 use mathlib.Core.Bool.{Bool}
 use mathlib.Core.List.{List, [], _∷_, _++_, append-assoc}
-use Prim.Native.Nat.{ℕ, suc, _+_, _-_, _*_, _≤_, _<_}
+use Prim.Native.Nat.{ℕ, zero, suc, _+_, _-_, _*_, _≤_, _<_}
 use native.Mathlib.Omega.{arith}
 use lib.ListN.{length, getD, length-append}
 use lib.Seq.{sets}
@@ -49,6 +49,21 @@ laid-length named p = simp (length-append, fitted-length)
 pub listed-length : (at : ℕ) (named : Bool) (p : Part) → length (listedPart at named p) ≡ listedWidth
 unfolding listedPart listedIn rooms partFields withIds partTexts loop
 listed-length at named p = refl
+
+-- and so are those of n parts
+pub laid-all : (n : ℕ) (s : List ℕ) (at : ℕ) → length (laidParts n s at) ≡ n * laidWidth
+unfolding laidParts
+laid-all zero s at = refl
+laid-all (suc n) s at =
+    length-append (laidPart (isMedium (getD s (at + mediumAt) 0)) (lentPart s at)) (laidParts n s (at + partWidth))
+    ∙ rw (laid-length, laid-all n s (at + partWidth)) (omega arith)
+
+pub listed-all : (place n : ℕ) (s : List ℕ) (at : ℕ) → length (listedParts place n s at) ≡ n * listedWidth
+unfolding listedParts
+listed-all place zero s at = refl
+listed-all place (suc n) s at =
+    length-append (listedPart place (isMedium (getD s (at + mediumAt) 0)) (lentPart s at)) (listedParts (place + laidWidth) n s (at + partWidth))
+    ∙ rw (listed-length, listed-all (place + laidWidth) n s (at + partWidth)) (omega arith)
 
 -- where part j is stored behind those before it, the parts after it are left to store, and so in the table
 module _ (s : List ℕ) (n j : ℕ) (h : j < n) where

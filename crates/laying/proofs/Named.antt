@@ -39,14 +39,16 @@ names-append {contents} {es} {ds} m n =
       within = inside-append contents es ds ∙ ap₂ (λ (x y : Bool). x && y) (m .within) (n .within);
     }
 
-abbrev contentsOf : List Optional → List (List ℕ)
-contentsOf fs = map (λ (f : Optional). f .content) fs
+-- what each field holds
+abbrev eachContent : List Optional → List (List ℕ)
+eachContent fs = map (λ (f : Optional). f .content) fs
 
 -- each content has its room
 data Roomy : List ℕ → List Optional → Type 0 where
   no-field : Roomy [] []
   one-field : {r : ℕ} {rs : List ℕ} {f : Optional} {fs : List Optional} → length (f .content) ≤ r → Roomy rs fs → Roomy (r ∷ rs) (f ∷ fs)
 
+-- or fills it
 full-field : {r : ℕ} {rs : List ℕ} {f : Optional} {fs : List Optional} → length (f .content) ≡ r → Roomy rs fs → Roomy (r ∷ rs) (f ∷ fs)
 full-field {r} {f = f} e room =
     let h : length (f .content) ≤ r = omega arith in
@@ -67,14 +69,14 @@ module _ (texts : List ℕ) (at n : ℕ) (here after : List ℕ) (l : length her
 
 -- fields whose contents stand each in its room, from a place of the texts on
 listed-names : {rs : List ℕ} {fs : List Optional} → Roomy rs fs → (texts : List ℕ) (at : ℕ) (rest more : List ℕ) → at ≤ length texts
-    → drop at texts ≡ joined (fittedAll rs (contentsOf fs)) ++ rest
+    → drop at texts ≡ joined (fittedAll rs (eachContent fs)) ++ rest
     → Names texts (entries (length fs) (listedIn at rs fs ++ more)) fs
 unfolding fittedAll listedIn joined entries entryOf optionalOf optionalIn contentIn allInside inside
 listed-names no-field texts at rest more h e = record { fields = refl; within = refl }
 listed-names (one-field {r} {rs} {f} {fs} k room) texts at rest more h e =
     let c : List ℕ = f .content in
-    let after : List ℕ = joined (fittedAll rs (contentsOf fs)) ++ rest in
-    let first : drop at texts ≡ fitted r c ++ after = e ∙ append-assoc (fitted r c) (joined (fittedAll rs (contentsOf fs))) rest in
+    let after : List ℕ = joined (fittedAll rs (eachContent fs)) ++ rest in
+    let first : drop at texts ≡ fitted r c ++ after = e ∙ append-assoc (fitted r c) (joined (fittedAll rs (eachContent fs))) rest in
     let l = fitted-length r c in
     let inner = ends texts at r (fitted r c) after l first h in
     let content : slice at (at + length c) texts ≡ c = sym (take-from (length c) at texts) ∙ ap (take (length c)) first ∙ front r c after k in
@@ -106,6 +108,16 @@ part-names : {p : Part} → PartWide p → (named : Bool) (texts : List ℕ) (at
 unfolding laidPart listedPart partFields withIds partTexts loop
 part-names w named texts at rest more h e = listed-names (part-roomy w named) texts at rest more h e
 
+-- the entries of a part, and those of the n parts after it
+table-parts : (n at : ℕ) (named : Bool) (p : Part) (tail : List ℕ)
+    → entries (suc n * loopFields) (listedPart at named p ++ tail) ≡ entries loopFields (listedPart at named p ++ tail) ++ entries (n * loopFields) tail
+table-parts n at named p tail =
+    let count : suc n * loopFields ≡ loopFields + n * loopFields = omega arith in
+    rw count
+    (entries-halves loopFields (n * loopFields) (listedPart at named p ++ tail)
+    ∙ ap (λ (t : List ℕ). entries loopFields (listedPart at named p ++ tail) ++ entries (n * loopFields) t)
+    (drop-at (listedPart at named p) tail (loopFields * entryWidth) (listed-length at named p)))
+
 -- lent parts that stand laid from a place on
 parts-names : (n : ℕ) (s : List ℕ) (from : ℕ) (texts : List ℕ) (at : ℕ) (rest more : List ℕ) → at ≤ length texts
     → drop at texts ≡ laidParts n s from ++ rest
@@ -119,13 +131,7 @@ parts-names (suc n) s from texts at rest more h e =
     let tail : List ℕ = listedParts (at + laidWidth) n s (from + partWidth) ++ more in
     let first : drop at texts ≡ laidPart named p ++ after = e ∙ append-assoc (laidPart named p) (laidParts n s (from + partWidth)) rest in
     let l = laid-length named p in
-    let count : suc n * loopFields ≡ loopFields + n * loopFields = omega arith in
-    let table : entries (suc n * loopFields) (listedParts at (suc n) s from ++ more) ≡ entries loopFields (listedPart at named p ++ tail) ++ entries (n * loopFields) tail =
-    rw (count, append-assoc (listedPart at named p) (listedParts (at + laidWidth) n s (from + partWidth)) more)
-    (entries-halves loopFields (n * loopFields) (listedPart at named p ++ tail)
-    ∙ ap (λ (t : List ℕ). entries loopFields (listedPart at named p ++ tail) ++ entries (n * loopFields) t)
-    (drop-at (listedPart at named p) tail (loopFields * entryWidth) (listed-length at named p))) in
-    rw table
+    rw (append-assoc (listedPart at named p) (listedParts (at + laidWidth) n s (from + partWidth)) more, table-parts n at named p tail)
     (names-append
     (part-names (lent-wide s from) named texts at after tail h first)
     (parts-names n s (from + partWidth) texts (at + laidWidth) rest more (ends texts at laidWidth (laidPart named p) after l first h) (past texts at laidWidth (laidPart named p) after l first)))
