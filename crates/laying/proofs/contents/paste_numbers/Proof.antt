@@ -1,57 +1,57 @@
+-- `laying::contents::paste_numbers` meets its contract. The invariant: what is left to store makes of the table what all of it made.
+use mathlib.Core.Path.{_≡_, refl, sym, _∙_}
+use Prim.Native.Nat.{_≤_, _-_, _+_}
+use native.Mathlib.Nat.{add-zero}
+use native.Mathlib.Omega.{arith}
+use lib.ListN.{length, drop, length-set}
+use lib.Seq.{sets}
+use Rattle.cells.proofs.Lists.{sets-next, sets-end}
+use borrow.Author.Needs.{needs}
 use Rattle.laying.proofs.contents.paste_numbers.Statement.{statement}
 use Rattle.laying.proofs.contents.paste_numbers.Tie as tie
-use Rattle.laying.proofs.contents.paste_numbers.Reads as reads
-use Rattle.laying.proofs.contents.paste_numbers.Lts as lts
 
 abbrev Inv-loop : tie.InvT-loop
-Inv-loop table₀ at src i₀ table i = ?
+Inv-loop table₀ at src i₀ table i = (i ≤ length src) × (length table ≡ length table₀) × (sets table₀ at src ≡ sets table (at + i) (drop i src))
 
 abbrev μ-loop : tie.MeasureT-loop
-μ-loop table₀ at src i₀ table i = ?
+μ-loop table₀ at src i₀ table i = length src - i
 
--- src/contents.rt:205:5
 loop-holds : tie.Need-loop-holds Inv-loop μ-loop
-loop-holds c = ?
+loop-holds c = (search needs, refl, rw add-zero refl)
 
--- src/contents.rt:206:25
 mul-table : tie.Need-mul-table Inv-loop μ-loop
-mul-table c = ?
+mul-table c = search needs
 
--- src/contents.rt:206:25
 shared-slice-read-table : tie.Need-shared-slice-read-table Inv-loop μ-loop
-shared-slice-read-table c = ?
+shared-slice-read-table c = search needs
 
--- src/contents.rt:206:15
 add-table : tie.Need-add-table Inv-loop μ-loop
-add-table c = ?
+add-table c = omega arith
 
--- src/contents.rt:206:9
 mul-table-2 : tie.Need-mul-table-2 Inv-loop μ-loop
-mul-table-2 c = ?
+mul-table-2 c = search needs
 
--- src/contents.rt:206:9
 slice-write-table : tie.Need-slice-write-table Inv-loop μ-loop
-slice-write-table c = ?
+slice-write-table c = omega arith
 
--- src/contents.rt:207:9
 add-i : tie.Need-add-i Inv-loop μ-loop
-add-i c = ?
+add-i c = search needs
 
--- src/contents.rt:205:5
 loop-less : tie.Need-loop-less Inv-loop μ-loop
-loop-less c = ?
+loop-less c = search needs
 
--- src/contents.rt:205:5
 loop-again : tie.Need-loop-again Inv-loop μ-loop
-loop-again c = ?
+loop-again c =
+    let l = c .before .before in
+    (omega arith, simp length-set (omega arith), l .loop .inv .2 ∙ sets-next _ _ _ (l .loop .i) (omega arith))
 
--- src/contents.rt:200:1
 same-length : tie.Need-same-length Inv-loop μ-loop
-same-length c = ?
+same-length c = search needs
 
--- src/contents.rt:200:1
 returns : tie.Need-returns Inv-loop μ-loop
-returns c = ?
+returns c =
+    let l = c .before .loop in
+    sym (l .inv .2 ∙ sets-end _ _ _ (l .i) (omega arith))
 
 pub paste-numbers-spec : {M : Type 1} → statement M
 paste-numbers-spec =

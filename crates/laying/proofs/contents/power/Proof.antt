@@ -1,37 +1,46 @@
+-- `laying::contents::power` meets its contract. The invariant: the number is ten to the number of turns.
+use mathlib.Core.Path.{_≡_, refl}
+use Prim.Native.Nat.{_-_, _^_, _≤_}
+use native.Mathlib.Nat.{pow-suc, pow-le-pow-right}
+use native.Mathlib.Numerals.{add-one}
+use native.Mathlib.Omega.{arith}
+use lib.Dec.{lit<}
+use borrow.Author.Needs.{needs}
 use Rattle.laying.proofs.contents.power.Statement.{statement}
 use Rattle.laying.proofs.contents.power.Tie as tie
-use Rattle.laying.proofs.contents.power.Reads as reads
-use Rattle.laying.proofs.contents.power.Lts as lts
 
 abbrev Inv-loop : tie.InvT-loop
-Inv-loop digits n₀ i₀ n i = ?
+Inv-loop digits n₀ i₀ n i = (i ≤ digits) × (n ≡ 10 ^ i)
 
 abbrev μ-loop : tie.MeasureT-loop
-μ-loop digits n₀ i₀ n i = ?
+μ-loop digits n₀ i₀ n i = digits - i
 
--- src/contents.rt:58:5
 loop-holds : tie.Need-loop-holds Inv-loop μ-loop
-loop-holds c = ?
+loop-holds c = (search needs, refl)
 
--- src/contents.rt:59:9
 mul-n : tie.Need-mul-n Inv-loop μ-loop
-mul-n c = ?
+mul-n c =
+    let l = c .before .loop in
+    let h : l .i ≤ 15 = omega arith in
+    let p : 10 ^ l .i ≤ 10 ^ 15 = pow-le-pow-right (lit< tt) h in
+    omega arith
 
--- src/contents.rt:60:9
 add-i : tie.Need-add-i Inv-loop μ-loop
-add-i c = ?
+add-i c = search needs
 
--- src/contents.rt:58:5
 loop-less : tie.Need-loop-less Inv-loop μ-loop
-loop-less c = ?
+loop-less c = search needs
 
--- src/contents.rt:58:5
 loop-again : tie.Need-loop-again Inv-loop μ-loop
-loop-again c = ?
+loop-again c =
+    let l = c .before .loop in
+    (omega arith, rw (add-one (l .i), pow-suc 10 (l .i), l .inv .1))
 
--- src/contents.rt:52:1
 returns : tie.Need-returns Inv-loop μ-loop
-returns c = ?
+returns c =
+    let l = c .before .loop in
+    let e : l .i ≡ c .before .before .args .digits = omega arith in
+    rw (← e) (l .inv .1)
 
 pub power-spec : {M : Type 1} → statement M
 power-spec =

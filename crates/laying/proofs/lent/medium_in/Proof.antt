@@ -1,15 +1,16 @@
+-- `laying::lent::medium_in` meets its contract, by whether the byte is that of the digital medium.
+use borrow.Author.Tests.{eq-eqb, ne-eqb}
+use Rattle.parts.specs.Part.{mediumIn}
 use Rattle.laying.proofs.lent.medium_in.Statement.{statement}
 use Rattle.laying.proofs.lent.medium_in.Tie as tie
-use Rattle.laying.proofs.lent.medium_in.Reads as reads
-use Rattle.laying.proofs.lent.medium_in.Lts as lts
 
--- src/lent.rt:32:9
 returns : tie.Need-returns
-returns c = ?
+unfolding mediumIn
+returns c = rw (eq-eqb _ _ (c .if1 .taken))
 
--- src/lent.rt:28:1
 returns-2 : tie.Need-returns-2
-returns-2 c = ?
+unfolding mediumIn
+returns-2 c = rw (ne-eqb _ _ (c .if1 .left))
 
 pub medium-in-spec : {M : Type 1} → statement M
 medium-in-spec = tie.close (tie.spec returns returns-2)

@@ -1,0 +1,4 @@
+pub mod Laying
+pub mod Named
+pub mod Texts
+pub mod Values
