@@ -25,6 +25,7 @@ use Rattle.parts.specs.declared.answer.Verdict.{Verdict}
 use Rattle.parts.specs.declared.answer.Verdict.the-variants.{Refused, Fits}
 use Rattle.parts.proofs.Joined.{table-whole, table-long}
 use Rattle.parts.proofs.Together.{named-together, inside-together}
+use Rattle.parts.proofs.Stages.{parts-taken}
 use Rattle.bundles.specs.Demand2.{writePartsCall, CanWriteParts, PartsWriteExactly}
 use Rattle.bundles.proofs.ReadDone.{never-done}
 
@@ -35,13 +36,7 @@ module _ (fixed table : List ℕ) (count : ℕ) (contents parts : List ℕ) (n :
   abbrev fields : List Optional
   fields = optionalOf contents (entries count table) ++ more
 
-  -- parts that are as they should be are not refused
-  taken : n ≤ mostParts → n * partWidth ≤ length parts → isMisplaced fixed table count n ≡ false → areLoops n more ≡ true
-      → writeParts fixed table count contents parts n out ≡ writeWith more fixed table count contents out
-  unfolding writeParts writtenWith partsRefused isBroken
-  taken few lent placed loops = rw (le-ltb mostParts n few, le-ltb (length parts) (n * partWidth) lent, placed, loops)
-
-  -- what is known of them where writing answers 0
+  -- what is known of the parts where writing answers 0
   record Taken : Type 0 where
     few : n ≤ mostParts
     lent : n * partWidth ≤ length parts
@@ -83,7 +78,7 @@ module _ (fixed table : List ℕ) (count : ℕ) (contents parts : List ℕ) (n :
     done-can =
         let t = were-taken in
         let a : write fixed (tableWith more table count) (count + length more) (contentsWith more contents) out .said .answer ≡ 0 =
-        ap (λ (o : Outcome). o .said .answer) (sym (taken (t .few) (t .lent) (t .placed) (t .loops))) ∙ e in
+        ap (λ (o : Outcome). o .said .answer) (sym (parts-taken fixed table count contents parts n out (t .few) (t .lent) (t .placed) (t .loops))) ∙ e in
         let c = write-exactly fixed (tableWith more table count) (count + length more) (contentsWith more contents) out .only-records a in
         let h = table-whole more table count (c .listed) in
         let named = named-together table contents count more h in
@@ -112,7 +107,7 @@ module _ (fixed table : List ℕ) (count : ℕ) (contents parts : List ℕ) (n :
         makes = subst (Makes fixed) (sym named) (c .makes);
         room = subst (λ (fs : List Optional). length (recordText fixed fs) ≤ length out) (sym named) (c .room);
       } in
-      taken (c .few) (c .lent) (c .placed) (c .are-loops)
+      parts-taken fixed table count contents parts n out (c .few) (c .lent) (c .placed) (c .are-loops)
       ∙ write-exactly fixed (tableWith more table count) (count + length more) (contentsWith more contents) out .all-records w
       ∙ ap (λ (fs : List Optional). outcome (record { answer = 0; place = 0; length = length (recordText fixed fs) }) (recordText fixed fs ++ drop (length (recordText fixed fs)) out)) named
 

@@ -4,3 +4,4 @@ pub mod Series
 pub mod Joined
 pub mod Alike
 pub mod Together
+pub mod Stages
