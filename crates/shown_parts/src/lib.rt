@@ -74,7 +74,13 @@ fn show_entry(room: &[u8; FULL_ROOM], i: usize) {
 }
 
 // Whether the record that was written with n parts is the record again.
-fn show_written(s: &[u8], table: &[usize; FULL_TABLE], fields: usize, room: &[u8; FULL_ROOM], n: usize) {
+fn show_written(
+    s: &[u8],
+    table: &[usize; FULL_TABLE],
+    fields: usize,
+    room: &[u8; FULL_ROOM],
+    n: usize,
+) {
     if MOST_PARTS < n {
         return;
     }
