@@ -5,21 +5,15 @@ ghost use mathlib.Core.Path.{_≡_};
 ghost use Rattle.writing.specs.Write.{outcome};
 ghost use Rattle.parts.specs.Write.{entriesThere, hasLoop, isMisplaced, writeParts};
 use crate::whole::write_with;
-use laying::contents::lay_parts;
+use lent_parts::faults::are_lent_loops;
 use parts::answer::Refusal;
 use parts::answer::not_written;
 use parts::entry::PART_WIDTH;
 use parts::loops::MOST_PARTS;
-use parts::loops::are_loops;
 use parts::loops::is_bundle;
 use parts::loops::others_among;
 use record::fields::ENTRY_WIDTH;
 use writing::answer::Written;
-
-// The bytes of the contents of eight parts, and the numbers of their entries.
-const ALL_LAID: usize = 648;
-
-const ALL_LISTED: usize = 240;
 
 // How many entries of a table are there, of so many.
 fn entries_there(table: &[usize], count: usize) -> usize
@@ -71,11 +65,8 @@ pub fn write_parts(
     if is_misplaced(fixed, table, fields, n) {
         return not_written(Refusal::Broken);
     }
-    let mut texts = [0u8; ALL_LAID];
-    let mut listed = [0usize; ALL_LISTED];
-    lay_parts(room, n, &mut texts, &mut listed);
-    if !are_loops(&texts, &listed, 0, n) {
+    if !are_lent_loops(room, n) {
         return not_written(Refusal::Broken);
     }
-    write_with(fixed, table, fields, contents, &listed, n, &texts, out)
+    write_with(fixed, table, fields, contents, room, n, out)
 }

@@ -10,8 +10,15 @@ ghost use Rattle.record.specs.Read.{entryWidth};
 ghost use Rattle.writing.specs.Widths.{allInside, widthAfter};
 ghost use Rattle.writing.specs.Write.{entries, optionalOf, recordText, outcome, lengthJudged};
 ghost use Rattle.parts.specs.Loops.{loopFields, mostParts, areLoops};
+ghost use Rattle.parts.specs.Part.{partWidth};
+ghost use Rattle.parts.specs.Fields.{lentFields};
 ghost use Rattle.parts.specs.Write.{writeWith};
+ghost use Rattle.lent_parts.specs.Faults.{firstFault, fieldsText};
 ghost use Rattle.packing.specs.Judged.{restWith, judgedWith};
+use cells::paste_at;
+use lent_parts::faults::first_fault;
+use lent_parts::faults::loops_width;
+use lent_parts::put::put_loops;
 use parts::loops::LOOP_FIELDS;
 use record::fields::ENTRY_WIDTH;
 use record::fields::HEAD_WIDTH;
@@ -30,23 +37,23 @@ use writing::entries::judge_fields;
 use writing::entries::record_width;
 use writing::fixed::judge_fixed;
 
-// 1, then 23, of a record whose fields are those of a table and then those of the parts' table.
+// 1, then 23, of a record whose fields are those of a table and then those of n lent parts.
 fn judge_whole(
     width: usize,
     table: &[usize],
     fields: usize,
-    listed: &[usize],
-    more: usize,
+    room: &[u8],
+    n: usize,
     out: &[u8],
 ) -> Verdict
-    requires { ⌜ (width ≤ 108) × (fields ≤ mostFields) × (fields * entryWidth ≤ length (now table)) × (more ≤ mostFields) × (more * entryWidth ≤ length (now listed)) ⌝ }
-    ensures { λ r. ⌜ r ≡ lengthJudged (widthAfter width (entries fields (now (table .entry)) ++ entries more (now (listed .entry)))) (now (out .entry)) ⌝ }
+    requires { ⌜ (width ≤ 108) × (fields ≤ mostFields) × (fields * entryWidth ≤ length (now table)) × (n ≤ mostParts) × (n * partWidth ≤ length (now room)) ⌝ }
+    ensures { λ r. ⌜ r ≡ lengthJudged (widthAfter width (entries fields (now (table .entry))) + length (fieldsText (lentFields n (now (room .entry)) 0))) (now (out .entry)) ⌝ }
 {
     let body = record_width(width, table, fields);
     if MOST_BYTES < body {
         return Verdict::Refused(Refusal::TooLong);
     }
-    judge_length(record_width(body - HEAD_WIDTH, listed, more), out)
+    judge_length(body + loops_width(room, n), out)
 }
 
 // 8, 23, 9 and 10, 1, 23 over all fields, of a record whose fixed part keeps its rules.
@@ -56,13 +63,12 @@ fn judge_rest(
     table: &[usize],
     fields: usize,
     contents: &[u8],
-    listed: &[usize],
+    room: &[u8],
     n: usize,
-    texts: &[u8],
     out: &[u8],
 ) -> Verdict
-    requires { ⌜ (length (now fixed) ≤ 108) × (n ≤ mostParts) × (n * loopFields * entryWidth ≤ length (now listed)) × (allInside (now texts) (entries (n * loopFields) (now listed)) ≡ true) × (areLoops n (optionalOf (now texts) (entries (n * loopFields) (now listed))) ≡ true) ⌝ }
-    ensures { λ r. ⌜ r ≡ restWith (optionalOf (now (texts .entry)) (entries (n * loopFields) (now (listed .entry)))) k (now (fixed .entry)) (now (table .entry)) fields (now (contents .entry)) (now (out .entry)) ⌝ }
+    requires { ⌜ (length (now fixed) ≤ 108) × (n ≤ mostParts) × (n * partWidth ≤ length (now room)) × (areLoops n (lentFields n (now room) 0) ≡ true) ⌝ }
+    ensures { λ r. ⌜ r ≡ restWith (lentFields n (now (room .entry)) 0) k (now (fixed .entry)) (now (table .entry)) fields (now (contents .entry)) (now (out .entry)) ⌝ }
 {
     let more = n * LOOP_FIELDS;
     if MOST_FIELDS - more < fields {
@@ -73,10 +79,13 @@ fn judge_rest(
     }
     match judge_fields(k, 0, table, fields, contents) {
         Verdict::Refused(r) => Verdict::Refused(r),
-        Verdict::Fits(_) => match judge_fields(k, fields, listed, more, texts) {
-            Verdict::Refused(r) => Verdict::Refused(r),
-            Verdict::Fits(_) => judge_whole(fixed.len(), table, fields, listed, more, out),
-        },
+        Verdict::Fits(_) => {
+            let fault = first_fault(room, n);
+            if fault < more {
+                return Verdict::Refused(Refusal::Content(fields + fault));
+            }
+            judge_whole(fixed.len(), table, fields, room, n, out)
+        }
     }
 }
 
@@ -86,21 +95,18 @@ fn judge_with(
     table: &[usize],
     fields: usize,
     contents: &[u8],
-    listed: &[usize],
+    room: &[u8],
     n: usize,
-    texts: &[u8],
     out: &[u8],
 ) -> Verdict
-    requires { ⌜ (n ≤ mostParts) × (n * loopFields * entryWidth ≤ length (now listed)) × (allInside (now texts) (entries (n * loopFields) (now listed)) ≡ true) × (areLoops n (optionalOf (now texts) (entries (n * loopFields) (now listed))) ≡ true) ⌝ }
-    ensures { λ r. ⌜ r ≡ judgedWith (optionalOf (now (texts .entry)) (entries (n * loopFields) (now (listed .entry)))) (now (fixed .entry)) (now (table .entry)) fields (now (contents .entry)) (now (out .entry)) ⌝ }
+    requires { ⌜ (n ≤ mostParts) × (n * partWidth ≤ length (now room)) × (areLoops n (lentFields n (now room) 0) ≡ true) ⌝ }
+    ensures { λ r. ⌜ r ≡ judgedWith (lentFields n (now (room .entry)) 0) (now (fixed .entry)) (now (table .entry)) fields (now (contents .entry)) (now (out .entry)) ⌝ }
 {
     match judge_fixed(fixed) {
         Verdict::Refused(r) => Verdict::Refused(r),
         Verdict::Fits(_) => match kind_of(fixed) {
             Kinded::Unknown => Verdict::Refused(Refusal::FixedField(0)),
-            Kinded::Known(k) => {
-                judge_rest(k, fixed, table, fields, contents, listed, n, texts, out)
-            }
+            Kinded::Known(k) => judge_rest(k, fixed, table, fields, contents, room, n, out),
         },
     }
 }
@@ -112,16 +118,16 @@ fn put_with(
     table: &[usize],
     fields: usize,
     contents: &[u8],
-    listed: &[usize],
-    more: usize,
-    texts: &[u8],
+    room: &[u8],
+    n: usize,
 )
-    requires { ⌜ (length (now fixed) ≤ 108) × (fields ≤ mostFields) × (fields * entryWidth ≤ length (now table)) × (allInside (now contents) (entries fields (now table)) ≡ true) × (more ≤ mostFields) × (more * entryWidth ≤ length (now listed)) × (allInside (now texts) (entries more (now listed)) ≡ true) × (widthAfter (length (now fixed)) (entries fields (now table) ++ entries more (now listed)) ≤ mostBytes) × (widthAfter (length (now fixed)) (entries fields (now table) ++ entries more (now listed)) ≤ length (now out)) ⌝ }
-    ensures { λ _. ⌜ now (out .exit) ≡ sets (now (out .entry)) 0 (recordText (now (fixed .entry)) (optionalOf (now (contents .entry)) (entries fields (now (table .entry))) ++ optionalOf (now (texts .entry)) (entries more (now (listed .entry))))) ⌝ }
+    requires { ⌜ (length (now fixed) ≤ 108) × (fields ≤ mostFields) × (fields * entryWidth ≤ length (now table)) × (allInside (now contents) (entries fields (now table)) ≡ true) × (n ≤ mostParts) × (n * partWidth ≤ length (now room)) × (firstFault (lentFields n (now room) 0) ≡ n * loopFields) × (widthAfter (length (now fixed)) (entries fields (now table)) + length (fieldsText (lentFields n (now room) 0)) ≤ mostBytes) × (widthAfter (length (now fixed)) (entries fields (now table)) + length (fieldsText (lentFields n (now room) 0)) ≤ length (now out)) ⌝ }
+    ensures { λ _. ⌜ now (out .exit) ≡ sets (now (out .entry)) 0 (recordText (now (fixed .entry)) (optionalOf (now (contents .entry)) (entries fields (now (table .entry))) ++ lentFields n (now (room .entry)) 0)) ⌝ }
 {
     put_record(out, fixed, table, fields, contents);
     let at = record_width(fixed.len(), table, fields) - HEAD_WIDTH;
-    put_record(&mut out[at..], b"", listed, more, texts);
+    let end = put_loops(out, at, room, n);
+    paste_at(out, end, b"*9999");
 }
 
 // Writes the table's fields and then the parts', or refuses and changes nothing.
@@ -130,27 +136,17 @@ pub fn write_with(
     table: &[usize],
     fields: usize,
     contents: &[u8],
-    listed: &[usize],
+    room: &[u8],
     n: usize,
-    texts: &[u8],
     out: &mut [u8],
 ) -> Written
-    requires { ⌜ (n ≤ mostParts) × (n * loopFields * entryWidth ≤ length (now listed)) × (allInside (now texts) (entries (n * loopFields) (now listed)) ≡ true) × (areLoops n (optionalOf (now texts) (entries (n * loopFields) (now listed))) ≡ true) ⌝ }
-    ensures { λ r. ⌜ outcome r (now (out .exit)) ≡ writeWith (optionalOf (now (texts .entry)) (entries (n * loopFields) (now (listed .entry)))) (now (fixed .entry)) (now (table .entry)) fields (now (contents .entry)) (now (out .entry)) ⌝ }
+    requires { ⌜ (n ≤ mostParts) × (n * partWidth ≤ length (now room)) × (areLoops n (lentFields n (now room) 0) ≡ true) ⌝ }
+    ensures { λ r. ⌜ outcome r (now (out .exit)) ≡ writeWith (lentFields n (now (room .entry)) 0) (now (fixed .entry)) (now (table .entry)) fields (now (contents .entry)) (now (out .entry)) ⌝ }
 {
-    match judge_with(fixed, table, fields, contents, listed, n, texts, out) {
+    match judge_with(fixed, table, fields, contents, room, n, out) {
         Verdict::Refused(r) => written_of(Verdict::Refused(r)),
         Verdict::Fits(length) => {
-            put_with(
-                out,
-                fixed,
-                table,
-                fields,
-                contents,
-                listed,
-                n * LOOP_FIELDS,
-                texts,
-            );
+            put_with(out, fixed, table, fields, contents, room, n);
             written_of(Verdict::Fits(length))
         }
     }

@@ -1,7 +1,7 @@
 // The parts of a bundle, printed with their values, and the record written back from them.
 use cells::part;
 use cells::same;
-use laying::lent::lent_part;
+use lent_parts::lent::lent_part;
 use packing::write_parts;
 use parts::entry::PART_WIDTH;
 use parts::loops::LOOP_FIELDS;

@@ -46,7 +46,7 @@ pub fn entry_at(table: &[usize], i: usize) -> Entry
 }
 
 // Whether each byte may stand in a content: allowed, and no star.
-fn is_content(s: &[u8]) -> bool
+pub fn is_content(s: &[u8]) -> bool
     ensures { λ r. ⌜ r ≡ all contentByte (now (s .entry)) ⌝ }
 {
     let mut i: usize = 0;

@@ -1,4 +1,0 @@
-pub mod Laying
-pub mod Named
-pub mod Texts
-pub mod Values
