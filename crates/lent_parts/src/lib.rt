@@ -1,4 +1,2 @@
-// The parts that stand in a lent room: their values, what is wrong with their fields, and the fields put into the output.
-pub mod faults;
+// The parts that stand in a lent room, as values.
 pub mod lent;
-pub mod put;

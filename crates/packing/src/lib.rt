@@ -5,7 +5,7 @@ ghost use mathlib.Core.Path.{_≡_};
 ghost use Rattle.writing.specs.Write.{outcome};
 ghost use Rattle.parts.specs.Write.{entriesThere, hasLoop, isMisplaced, writeParts};
 use crate::whole::write_with;
-use lent_parts::faults::are_lent_loops;
+use faults::are_lent_loops;
 use parts::answer::Refusal;
 use parts::answer::not_written;
 use parts::entry::PART_WIDTH;
