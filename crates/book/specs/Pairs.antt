@@ -9,7 +9,8 @@ use Rattle.cells.specs.Bytes.{pick, bytes}
 use Rattle.cells.specs.Little.{leBytes}
 use Rattle.roster.specs.Roster.{entryWidth}
 use Rattle.roster.specs.Cases.{entry}
-use Rattle.record.specs.Samples.{X, Y, Z, put}
+use Rattle.record.specs.Samples.{X, Y, Z, put, withBytes}
+use Rattle.record.specs.Edges.{times}
 use Rattle.entry.specs.Stored.{mostArrived, markAt, arrivedAt}
 use Rattle.book.specs.Lent.{Lent}
 use Rattle.book.specs.Booking.{book}
@@ -66,6 +67,8 @@ next = put 46 "0002" Y
 unfoldable pub trials : List Trial
 trials =
     trial [] overused 20 0  -- 20 before 2
+    ∷ trial (withBytes (times 96 (bytes "*8888")) X) (roomy 1 1) 0 0  -- 96 fields, 97 fields
+    ∷ trial (withBytes (times 97 (bytes "*8888")) X) (roomy 1 1) 8 547
     ∷ trial (put 72 "2" (put 36 "          " Y)) full 5 60  -- 5 before 13
     ∷ trial (put 36 "          " (put 75 "0000" Y)) full 13 0  -- 13 before 11
     ∷ trial (put 36 "          " (put 50 "          " Y)) full 13 0  -- 13 before 12

@@ -1,5 +1,5 @@
 -- Cases of reading and writing parts: the wholesalers' two bundles with all their values, each refusal with its place, and the order of the refusals.
-use Prim.Native.Nat.{ℕ, zero, suc, _+_, _*_, _^_}
+use Prim.Native.Nat.{ℕ, suc, _+_, _*_, _^_}
 use Prim.Native.String.{String}
 use mathlib.Core.Bool.{Bool, _&&_}
 use mathlib.Core.List.{List, [], _∷_, _++_, map}
@@ -7,7 +7,7 @@ use lib.Dec.{eqb}
 use lib.ListN.{length, take, drop, getD, replicate, set}
 use Rattle.cells.specs.Bytes.{pick, bytes, same, joined}
 use Rattle.record.specs.Samples.{X, Y, Z, put}
-use Rattle.record.specs.Edges.{C}
+use Rattle.record.specs.Edges.{C, times}
 use Rattle.parts.specs.Part.{articleWidth, fitted, partWidth, roomOf}
 use Rattle.parts.specs.Read.{readParts}
 use Rattle.parts.specs.Write.{writeParts}
@@ -55,11 +55,6 @@ printed = part 49 Physical (price 126200 6 "NO") (price 180000 6 "LP") "97831314
 
 abbrev pub digital : Part
 digital = part 50 Digital (price 31400 5 "NO") (price 49900 5 "LP") "9783131464712-2"
-
--- so many of the same
-abbrev times : ℕ → List ℕ → List ℕ
-times zero s = []
-times (suc n) s = s ++ times n s
 
 -- a loop's ten fields
 abbrev loopTexts : List (List ℕ)

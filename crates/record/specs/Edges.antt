@@ -8,7 +8,7 @@ use Rattle.rules.specs.Cases.{refusedBytes, takenBytes}
 use Rattle.record.specs.Samples.{X, Y, Z, put, with, withBytes, Row, row, reads}
 
 -- n times the same bytes
-abbrev times : ℕ → List ℕ → List ℕ
+abbrev pub times : ℕ → List ℕ → List ℕ
 times zero s = []
 times (suc n) s = s ++ times n s
 

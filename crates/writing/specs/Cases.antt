@@ -7,7 +7,7 @@ use lib.ListN.{length, take, drop, replicate, set}
 use Rattle.cells.specs.Bytes.{pick, bytes, same}
 use Rattle.rules.specs.Cases.{refusedBytes, takenBytes}
 use Rattle.record.specs.Samples.{X, Y, Z, put}
-use Rattle.record.specs.Edges.{C}
+use Rattle.record.specs.Edges.{C, times}
 use Rattle.record.specs.Values.{orderOf, deliveryOf, reportOf}
 use Rattle.record.specs.declared.values.Order.{Order}
 use Rattle.record.specs.declared.values.Report.{Report}
@@ -79,6 +79,8 @@ writeCases =
     ∷ refused (put 75 "0001" (take 79 Z)) [] 0 [] 84 5 12
     ∷ refused (put 65 "XX" FX) [] 97 [] 0 5 10  -- 5 before all others
     -- 8, then 23 for the table
+    ∷ case FX (times 96 (entry 8888 0 0)) 96 K 1024 0 0 (FX ++ (times 96 (bytes "*8888") ++ bytes "*9999"))
+    ∷ refused FX (times 97 (entry 8888 0 0)) 97 K 1024 8 96
     ∷ refused FX [] 97 [] 0 8 96
     ∷ refused FX (replicate 5 1017) 2 K 0 23 0
     ∷ refused FX [] 1 K 100 23 0
