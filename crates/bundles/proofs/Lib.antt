@@ -11,3 +11,4 @@ pub mod WriteDone
 pub mod ReadAfterWrite
 pub mod WriteAfterRead
 pub mod Demand2
+pub mod Promises

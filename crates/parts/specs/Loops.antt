@@ -83,10 +83,7 @@ unfoldable pub othersIn : List Optional → ℕ
 othersIn [] = 0
 othersIn (f ∷ fs) = pick (eqb (f .id) partId) 0 (suc (othersIn fs))
 
--- these fields, and those from there on
-unfoldable pub othersOf : List Optional → List Optional
-othersOf fs = take (othersIn fs) fs
-
+-- the fields from there on
 unfoldable pub loopsOf : List Optional → List Optional
 loopsOf fs = drop (othersIn fs) fs
 
