@@ -28,6 +28,7 @@ use parts::loops::is_bundle;
 use parts::loops::others_among;
 use reader::check;
 use record::fields::ENTRY_WIDTH;
+use record::fields::LAST_ID;
 
 // The numbers of a table with room for every record.
 const FULL_TABLE: usize = 288;
@@ -76,7 +77,8 @@ pub fn read_parts(s: &[u8], room: &mut [u8]) -> PartsRead
     if room.len() < MOST_PARTS * PART_WIDTH {
         return read_of(Verdict::Refused(Refusal::SmallRoom));
     }
-    let mut table = [0usize; FULL_TABLE];
+    // Entries that name no field; zeros would be a call of memset.
+    let mut table = [LAST_ID; FULL_TABLE];
     let checked = check(s, &mut table);
     if checked.answer != 0 {
         return PartsRead {

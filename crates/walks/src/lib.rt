@@ -113,6 +113,7 @@ pub fn judge(k: Kind, n: usize, s: &[u8], from: usize) -> Verdict
     ensures { λ r. ⌜ r ≡ judge k n noMember from (drop from (now (s .entry))) ⌝ }
 {
     let mut at = from;
+    let mut id = id_at(s, from);
     let mut before: usize = NO_MEMBER;
     let mut i: usize = 0;
     let mut found = Verdict::Fits(0);
@@ -121,7 +122,6 @@ pub fn judge(k: Kind, n: usize, s: &[u8], from: usize) -> Verdict
             found = Verdict::Fits(0);
             break 'fields;
         }
-        let id = id_at(s, at);
         let guard = is_guarded(k, id);
         let start = at + HEAD_WIDTH;
         let mut end = start;
@@ -145,6 +145,7 @@ pub fn judge(k: Kind, n: usize, s: &[u8], from: usize) -> Verdict
             break 'fields;
         }
         before = id;
+        id = after;
         at = end;
         i += 1;
     }

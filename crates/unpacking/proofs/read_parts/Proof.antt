@@ -23,7 +23,7 @@ use Rattle.unpacking.proofs.read_parts.Tie as tie
 
 -- the table that is lent to the check
 abbrev lent : List ℕ
-lent = replicate 288 0
+lent = replicate 288 9999
 
 -- what is known of a record that the check does not refuse: it fits
 holds : (c : tie.Else2) → judged (c .before .before .before .before .before .before .before .before .args .s .now) ≡ Holds (c .before .before .before .check .result .fields)

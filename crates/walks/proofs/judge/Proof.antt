@@ -1,4 +1,4 @@
--- `walks::judge` meets its contract. The invariants: the fields from `at` on give what all of them give,
+-- `walks::judge` meets its contract. The invariants: `id` is the ID at `at`, the fields from `at` on give what all of them give,
 -- and the content ends, and holds a barred byte, as it does from `end` on.
 use mathlib.Core.Path.{_≡_, _∙_, sym}
 use mathlib.Core.Bool.{false}
@@ -9,7 +9,7 @@ use native.Mathlib.Omega.{arith}
 use lib.ListN.{length, drop}
 use Rattle.cells.proofs.Bools.{is-not, is-so}
 use Rattle.record.specs.Contents.{noMember}
-use Rattle.record.specs.Fields.{judge}
+use Rattle.record.specs.Fields.{idOf, judge}
 use Rattle.walks.proofs.Contents.{endOf, end-on, end-star, end-none, end-range, barredFrom, barred-on, barred-found, barred-none}
 use Rattle.walks.proofs.Judged.{judge-end, judge-barred, judge-content, judge-group, judge-next}
 use borrow.Author.Needs.{needs}
@@ -17,33 +17,33 @@ use Rattle.walks.proofs.judge.Statement.{statement}
 use Rattle.walks.proofs.judge.Tie as tie
 
 abbrev Inv-content : tie.InvT-content
-Inv-content k n s from at before i id guard start end₀ end = (start ≤ end) × (endOf s start ≡ endOf s end) × (barredFrom guard s start ≡ barredFrom guard s end)
+Inv-content k n s from at id before i guard start end₀ end = (start ≤ end) × (endOf s start ≡ endOf s end) × (barredFrom guard s start ≡ barredFrom guard s end)
 
 abbrev μ-content : tie.MeasureT-content
-μ-content k n s from at before i id guard start end₀ end = length s - end
+μ-content k n s from at id before i guard start end₀ end = length s - end
 
 abbrev Inv-fields : tie.InvT-fields
-Inv-fields k n s from at₀ before₀ i₀ at before i = (i ≤ n) × (at ≤ length s + i * 5) × (judge k n noMember from (drop from s) ≡ judge k (n - i) before at (drop at s))
+Inv-fields k n s from at₀ id₀ before₀ i₀ at id before i = (i ≤ n) × (at ≤ length s + i * 5) × (id ≡ idOf (drop at s)) × (judge k n noMember from (drop from s) ≡ judge k (n - i) before at (drop at s))
 
 abbrev μ-fields : tie.MeasureT-fields
-μ-fields k n s from at₀ before₀ i₀ at before i = n - i
+μ-fields k n s from at₀ id₀ before₀ i₀ at id before i = n - i
 
 -- where the scan of a content ends, by either way out, the content ends, and it holds no byte that it may not
 scanned : (c : tie.Left-content Inv-content μ-content Inv-fields μ-fields)
     → let a = c .before .before in
-    let f = a .before .before .before in
-    let s = f .before .before .args .s .now in
+    let f = a .before .before in
+    let s = f .before .before .before .args .s .now in
     (endOf s (f .fields .at + 5) ≡ c .before .content .end) × (barredFrom (a .is-guarded .result) s (f .fields .at + 5) ≡ false)
 scanned c =
     let inv = c .before .content .inv in
     let e = ⊎-elim (λ w. end-none _ _ (w .left)) (λ w. end-star _ _ (w .0 .taken) (w .2 .taken)) (c .content-test .came) in
     (inv .1 ∙ e, inv .2 ∙ barred-none _ _ _ e)
 
-fields-holds : tie.Need-fields-holds Inv-content μ-content Inv-fields μ-fields
-fields-holds c = (search needs, search needs, rw sub-zero)
-
 id-at-requires : tie.Need-id-at-requires Inv-content μ-content Inv-fields μ-fields
 id-at-requires c κs = search needs
+
+fields-holds : tie.Need-fields-holds Inv-content μ-content Inv-fields μ-fields
+fields-holds c = (search needs, search needs, c .id-at .ensures, rw sub-zero)
 
 is-guarded-requires : tie.Need-is-guarded-requires Inv-content μ-content Inv-fields μ-fields
 is-guarded-requires c κs = search needs
@@ -103,36 +103,37 @@ fields-again c =
     let m = c .before .before .before in
     let k = m .before .before .before in
     let a = k .before .before in
-    let f = a .before .before .before in
+    let f = a .before .before in
     let z = scanned k in (
       search needs,
-      omega (arith, end-range (f .before .before .args .s .now) (f .fields .at + 5), z .0),
-      f .fields .inv .2 ∙ judge-next _ _ _ (search needs) _ _ _ _ (a .before .id-at .ensures) _ (a .is-guarded .ensures) _ (z .0) (z .1) _ (m .before .before .part .ensures)
+      omega (arith, end-range (f .before .before .before .args .s .now) (f .fields .at + 5), z .0),
+      c .before .before .id-at2 .ensures,
+      f .fields .inv .3 ∙ judge-next _ _ _ (search needs) _ _ _ _ (f .fields .inv .2) _ (a .is-guarded .ensures) _ (z .0) (z .1) _ (m .before .before .part .ensures)
           (is-so (m .before .rule-kept .ensures) (m .if4 .left)) _ (c .before .before .id-at2 .ensures) (is-so (c .before .group-kept .ensures) (c .if5 .left)),
     )
 
 returns : tie.Need-returns Inv-content μ-content Inv-fields μ-fields
 returns c =
     let f = c .before in
-    let a = f .before .before .args in
-    sym (f .fields .inv .2 ∙ judge-end (a .k) (a .n) (f .fields .i) _ _ _ (search needs))
+    let a = f .before .before .before .args in
+    sym (f .fields .inv .3 ∙ judge-end (a .k) (a .n) (f .fields .i) _ _ _ (search needs))
 
 returns-2 : tie.Need-returns-2 Inv-content μ-content Inv-fields μ-fields
 returns-2 c =
     let k = c .before .before .before in
     let l = k .before .before in
     let a = l .before .before in
-    let f = a .before .before .before in
-    sym (f .fields .inv .2 ∙ judge-barred _ _ _ (search needs) _ _ _ _ (a .before .id-at .ensures) _ (a .is-guarded .ensures)
+    let f = a .before .before in
+    sym (f .fields .inv .3 ∙ judge-barred _ _ _ (search needs) _ _ _ _ (f .fields .inv .2) _ (a .is-guarded .ensures)
     (l .before .content .inv .2 ∙ barred-found _ _ _ (l .content-test .taken) (k .if2 .left) (sym (c .before .is-barred .ensures) ∙ c .if3 .taken)))
 
 returns-3 : tie.Need-returns-3 Inv-content μ-content Inv-fields μ-fields
 returns-3 c =
     let k = c .before .before .before in
     let a = k .before .before in
-    let f = a .before .before .before in
+    let f = a .before .before in
     let z = scanned k in
-    sym (f .fields .inv .2 ∙ judge-content _ _ _ (search needs) _ _ _ _ (a .before .id-at .ensures) _ (a .is-guarded .ensures) _ (z .0) (z .1) _ (c .before .before .part .ensures)
+    sym (f .fields .inv .3 ∙ judge-content _ _ _ (search needs) _ _ _ _ (f .fields .inv .2) _ (a .is-guarded .ensures) _ (z .0) (z .1) _ (c .before .before .part .ensures)
     (is-not (c .before .rule-kept .ensures) (c .if4 .taken)))
 
 returns-4 : tie.Need-returns-4 Inv-content μ-content Inv-fields μ-fields
@@ -140,9 +141,9 @@ returns-4 c =
     let m = c .before .before .before in
     let k = m .before .before .before in
     let a = k .before .before in
-    let f = a .before .before .before in
+    let f = a .before .before in
     let z = scanned k in
-    sym (f .fields .inv .2 ∙ judge-group _ _ _ (search needs) _ _ _ _ (a .before .id-at .ensures) _ (a .is-guarded .ensures) _ (z .0) (z .1) _ (m .before .before .part .ensures)
+    sym (f .fields .inv .3 ∙ judge-group _ _ _ (search needs) _ _ _ _ (f .fields .inv .2) _ (a .is-guarded .ensures) _ (z .0) (z .1) _ (m .before .before .part .ensures)
     (is-so (m .before .rule-kept .ensures) (m .if4 .left)) _ (c .before .before .id-at2 .ensures) (is-not (c .before .group-kept .ensures) (c .if5 .taken)))
 
 pub judge-spec : {M : Type 1} → statement M
@@ -153,8 +154,8 @@ judge-spec =
     μ-content
     Inv-fields
     μ-fields
-    fields-holds
     id-at-requires
+    fields-holds
     is-guarded-requires
     add-start
     content-holds
