@@ -33,6 +33,11 @@ module _ (k : Kind) (p : ℕ) (t : List ℕ) where
     unfolding optionalJudged afterWalk _then_
     judge-refused r g = rw (e, g)
 
+    -- with no fields there is nothing to judge
+    pub none-fits : n ≡ 0 → optionalJudged k p t ≡ Fits 0
+    unfolding optionalJudged afterWalk judge _then_
+    none-fits z = rw (e, z)
+
     pub judge-fits : (m : ℕ) → judge k n noMember p t ≡ Fits m → optionalJudged k p t ≡ Fits n
     unfolding optionalJudged afterWalk _then_
     judge-fits m g = rw (e, g)

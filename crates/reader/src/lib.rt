@@ -34,17 +34,22 @@ use values::no_report;
 use values::order_of;
 use values::report_of;
 
-// 6 to 8, then 9 and 10.
+// 6 to 8, then 9 and 10, which nothing is asked for where there are no fields.
 fn judge_optional(k: Kind, s: &[u8], from: usize) -> Verdict
     requires { ⌜ from ≤ length (now s) ⌝ }
     ensures { λ r. ⌜ r ≡ optionalJudged k from (drop from (now (s .entry))) ⌝ }
 {
     match walks::walk(s, from) {
         Verdict::Refused(r) => Verdict::Refused(r),
-        Verdict::Fits(n) => match walks::judge(k, n, s, from) {
-            Verdict::Refused(r) => Verdict::Refused(r),
-            Verdict::Fits(_) => Verdict::Fits(n),
-        },
+        Verdict::Fits(n) => {
+            if n == 0 {
+                return Verdict::Fits(0);
+            }
+            match walks::judge(k, n, s, from) {
+                Verdict::Refused(r) => Verdict::Refused(r),
+                Verdict::Fits(_) => Verdict::Fits(n),
+            }
+        }
     }
 }
 
