@@ -1,91 +1,122 @@
+-- `faults::are_lent_loops` meets its contract. The invariant: the parts that are left are loops just where all are.
+use mathlib.Core.Path.{_≡_, _∙_, sym}
+use Prim.Native.Nat.{_+_, _-_, _*_, _≤_}
+use native.Mathlib.Nat.{sub-zero}
+use native.Mathlib.Omega.{arith}
+use lib.Seq.{slice}
+use Rattle.cells.specs.Bytes.{among}
+use Rattle.cells.proofs.Bools.{is-not, is-so}
+use Rattle.rules.specs.Rule.{texts}
+use Rattle.rules.specs.declared.rule.Texts.the-variants.{NetPrice, ListPrice}
+use Rattle.parts.specs.Loops.{areLoops}
+use Rattle.parts.specs.Part.{partWidth}
+use Rattle.parts.specs.Fields.{lentFields}
+use Rattle.faults.proofs.Asked.{loop-asks, loops-next, loops-end}
+use borrow.Author.Needs.{needs}
 use Rattle.faults.proofs.are_lent_loops.Statement.{statement}
 use Rattle.faults.proofs.are_lent_loops.Tie as tie
-use Rattle.faults.proofs.are_lent_loops.Reads as reads
-use Rattle.faults.proofs.are_lent_loops.Lts as lts
-use Rattle.cells.proofs.part.Reads as part-reads
-use Rattle.rules.proofs.rule.is_one_of.Reads as is-one-of-reads
 
 abbrev Inv-loop : tie.InvT-loop
-Inv-loop s n j₀ j = ?
+Inv-loop s n j₀ j =
+    (j ≤ n) × (areLoops n (lentFields n s 0) ≡ areLoops (n - j) (lentFields (n - j) s (j * partWidth)))
 
 abbrev μ-loop : tie.MeasureT-loop
-μ-loop s n j₀ j = ?
+μ-loop s n j₀ j = n - j
 
--- src/lib.rt:165:5
+-- what is said of both qualifiers
+net : (c : tie.After-is-one-of Inv-loop μ-loop)
+    → let l = c .before .before .before in
+    let at = l .loop .j * partWidth in
+    c .is-one-of .result ≡ among (slice (at + 2 + 9) (at + 2 + 11) (l .before .before .args .s .now)) (texts NetPrice)
+net c = c .is-one-of .ensures ∙ rw (c .before .part .ensures)
+
+list : (c : tie.After-is-one-of2 Inv-loop μ-loop)
+    → let l = c .before .before .before .before .before .before in
+    let at = l .loop .j * partWidth in
+    c .is-one-of2 .result ≡ among (slice (at + 16 + 9) (at + 16 + 11) (l .before .before .args .s .now)) (texts ListPrice)
+list c = c .is-one-of2 .ensures ∙ rw (c .before .part2 .ensures)
+
 loop-holds : tie.Need-loop-holds Inv-loop μ-loop
-loop-holds c = ?
+loop-holds c = (omega arith, rw sub-zero)
 
--- src/lib.rt:166:19
 mul-net : tie.Need-mul-net Inv-loop μ-loop
-mul-net c = ?
+mul-net c = search needs
 
--- src/lib.rt:166:19
 add-net : tie.Need-add-net Inv-loop μ-loop
-add-net c = ?
+add-net c = search needs
 
--- src/lib.rt:169:21
 add-part : tie.Need-add-part Inv-loop μ-loop
-add-part c = ?
+add-part c = search needs
 
--- src/lib.rt:169:44
 add-part-2 : tie.Need-add-part-2 Inv-loop μ-loop
-add-part-2 c = ?
+add-part-2 c = search needs
 
--- src/lib.rt:169:13
 part-requires : tie.Need-part-requires Inv-loop μ-loop
-part-requires c κs = ?
+part-requires c κs = search needs
 
--- src/lib.rt:167:13
 is-one-of-requires : tie.Need-is-one-of-requires Inv-loop μ-loop
-is-one-of-requires c κs = ?
+is-one-of-requires c κs = search needs
 
--- src/lib.rt:171:13
 returns : tie.Need-returns Inv-loop μ-loop
-returns c = ?
+returns c =
+    let l = c .before .before .before .before in
+    let start = l .before .before in
+    let s = start .args .s .now in
+    let h = c .before .before .before .loop-test .taken in
+    sym (l .loop .inv .1
+    ∙ loops-next s (start .args .n) (l .loop .j) h
+    ∙ rw (loop-asks s (l .loop .j * partWidth) (omega (arith, h, start .pre .1)), is-not (net (c .before)) (c .if1 .taken)))
 
--- src/lib.rt:173:20
 mul-list : tie.Need-mul-list Inv-loop μ-loop
-mul-list c = ?
+mul-list c = search needs
 
--- src/lib.rt:173:20
 add-list : tie.Need-add-list Inv-loop μ-loop
-add-list c = ?
+add-list c = search needs
 
--- src/lib.rt:176:21
 add-part-3 : tie.Need-add-part-3 Inv-loop μ-loop
-add-part-3 c = ?
+add-part-3 c = search needs
 
--- src/lib.rt:176:45
 add-part-4 : tie.Need-add-part-4 Inv-loop μ-loop
-add-part-4 c = ?
+add-part-4 c = search needs
 
--- src/lib.rt:176:13
 part-requires-2 : tie.Need-part-requires-2 Inv-loop μ-loop
-part-requires-2 c κs = ?
+part-requires-2 c κs = search needs
 
--- src/lib.rt:174:13
 is-one-of-requires-2 : tie.Need-is-one-of-requires-2 Inv-loop μ-loop
-is-one-of-requires-2 c κs = ?
+is-one-of-requires-2 c κs = search needs
 
--- src/lib.rt:178:13
 returns-2 : tie.Need-returns-2 Inv-loop μ-loop
-returns-2 c = ?
+returns-2 c =
+    let d = c .before .before .before in
+    let l = d .before .before .before .before in
+    let start = l .before .before in
+    let s = start .args .s .now in
+    let h = d .before .before .before .loop-test .taken in
+    sym (l .loop .inv .1
+    ∙ loops-next s (start .args .n) (l .loop .j) h
+    ∙ rw (loop-asks s (l .loop .j * partWidth) (omega (arith, h, start .pre .1)), is-so (net (d .before)) (d .if1 .left), is-not (list (c .before)) (c .if2 .taken)))
 
--- src/lib.rt:180:9
 add-j : tie.Need-add-j Inv-loop μ-loop
-add-j c = ?
+add-j c = search needs
 
--- src/lib.rt:165:5
 loop-less : tie.Need-loop-less Inv-loop μ-loop
-loop-less c = ?
+loop-less c = search needs
 
--- src/lib.rt:165:5
 loop-again : tie.Need-loop-again Inv-loop μ-loop
-loop-again c = ?
+loop-again c =
+    let d = c .before .before .before in
+    let l = d .before .before .before .before in
+    let start = l .before .before in
+    let s = start .args .s .now in
+    let h = d .before .before .before .loop-test .taken in
+    (search needs, l .loop .inv .1
+    ∙ loops-next s (start .args .n) (l .loop .j) h
+    ∙ rw (loop-asks s (l .loop .j * partWidth) (omega (arith, h, start .pre .1)), is-so (net (d .before)) (d .if1 .left), is-so (list (c .before)) (c .if2 .left)))
 
--- src/lib.rt:160:1
 returns-3 : tie.Need-returns-3 Inv-loop μ-loop
-returns-3 c = ?
+returns-3 c =
+    let l = c .before .loop in
+    sym (l .inv .1 ∙ loops-end _ (l .j) _ (c .loop-test .left))
 
 pub are-lent-loops-spec : {M : Type 1} → statement M
 are-lent-loops-spec =

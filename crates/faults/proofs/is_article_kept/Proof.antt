@@ -1,50 +1,62 @@
+-- `faults::is_article_kept` meets its contract: an article of one to thirty-five bytes that may stand there is kept.
+use mathlib.Core.Path.{_≡_, _∙_, sym, ap}
+use Prim.Native.Nat.{_+_, _≤_}
+use native.Mathlib.Omega.{arith}
+use lib.ListN.{length, getD}
+use lib.Seq.{slice, length-slice}
+use Rattle.parts.specs.Part.{lentArticle}
+use Rattle.lent_parts.specs.Faults.{isKept}
+use Rattle.faults.proofs.Kept.{article-none, article-long, article-kept}
+use Rattle.faults.proofs.Lent.{article-is}
 use borrow.Author.Needs.{needs}
 use Rattle.faults.proofs.is_article_kept.Statement.{statement}
 use Rattle.faults.proofs.is_article_kept.Tie as tie
-use Rattle.faults.proofs.is_article_kept.Reads as reads
-use Rattle.faults.proofs.is_article_kept.Lts as lts
-use Rattle.cells.proofs.part.Reads as part-reads
-use Rattle.writing.proofs.entries.is_content.Reads as is-content-reads
 
--- src/lib.rt:99:19
 add-width : tie.Need-add-width
 add-width c = search needs
 
--- src/lib.rt:99:17
 shared-slice-read-width : tie.Need-shared-slice-read-width
 shared-slice-read-width c = search needs
 
--- src/lib.rt:99:17
 cast-width : tie.Need-cast-width
-cast-width c = ?
+cast-width c = omega (arith, c .shared-slice-known2 .given (c .before .before .args .at + 30))
 
--- src/lib.rt:101:9
 returns : tie.Need-returns
-returns c = ?
+unfolding lentArticle
+returns c =
+    let a = c .before .before .before .args in
+    sym (article-none (lentArticle (a .s .now) (a .at)) (c .if1 .taken))
 
--- src/lib.rt:104:9
 returns-2 : tie.Need-returns-2
-returns-2 c = ?
+unfolding lentArticle
+returns-2 c =
+    let a = c .before .before .before .before .args in
+    sym (article-long (lentArticle (a .s .now) (a .at)) (c .if2 .taken))
 
--- src/lib.rt:106:17
 add-start : tie.Need-add-start
 add-start c = search needs
 
--- src/lib.rt:107:31
 add-part : tie.Need-add-part
 add-part c = search needs
 
--- src/lib.rt:107:16
 part-requires : tie.Need-part-requires
 part-requires c κs = search needs
 
--- src/lib.rt:107:5
 is-content-requires : tie.Need-is-content-requires
 is-content-requires c κs = search needs
 
--- src/lib.rt:95:1
 returns-3 : tie.Need-returns-3
-returns-3 c = ?
+returns-3 c =
+    let d = c .before .before in
+    let start = d .before .before .before .before in
+    let s = start .args .s .now in
+    let at = start .args .at in
+    let n = getD s (at + 30) 0 in
+    let l = length-slice (at + 31) (at + 31 + n) s (omega (arith, start .pre, d .if2 .left)) in
+    c .is-content .ensures
+    ∙ rw (c .before .part .ensures)
+    (sym (ap (isKept 1101) (article-is s at (start .pre) (d .if2 .left))
+    ∙ article-kept (slice (at + 31) (at + 31 + n) s) (omega (arith, l, d .before .if1 .left)) (omega (arith, l, d .if2 .left))))
 
 pub is-article-kept-spec : {M : Type 1} → statement M
 is-article-kept-spec =
