@@ -1,5 +1,5 @@
 -- The fields of a table and then those of lent parts, as the one table of all fields, are judged as the table's, and then by the first fault of the parts'.
-use mathlib.Core.Path.{_≡_, _∙_, ap, ap₂, sym}
+use mathlib.Core.Path.{_≡_, _∙_, ap, ap₂}
 use mathlib.Core.Bool.{true}
 use mathlib.Core.List.{List, [], map}
 use Prim.Native.Nat.{ℕ, _+_, _*_, _≤_}

@@ -2,13 +2,13 @@
 use mathlib.Core.Path.{_≡_, refl, _∙_, ap, sym}
 use mathlib.Core.Bool.{true}
 use mathlib.Core.List.{List, [], _∷_, _++_, append-assoc, append-nil}
-use Prim.Native.Nat.{ℕ, suc, _+_, _-_, _≤_, _<_}
-use native.Mathlib.Nat.{add-suc, zero-add, add-zero}
+use Prim.Native.Nat.{ℕ, suc, _+_, _≤_, _<_}
+use native.Mathlib.Nat.{zero-add}
 use native.Mathlib.Omega.{arith}
 use borrow.Author.Tests.{ltb-true, ltb-false}
 use lib.Dec.{ltb}
-use lib.ListN.{length, take, drop, set, length-append, take-append-drop}
-use lib.Seq.{sets, set-set, set-comm, take-set-le, drop-set-add, drop-drop, drop-length}
+use lib.ListN.{length, set, length-append}
+use lib.Seq.{sets, set-set, set-comm}
 use Rattle.cells.specs.Bytes.{bytes}
 use Rattle.cells.proofs.Bools.{split}
 use Rattle.cells.proofs.Stores.{sets-append}
@@ -16,9 +16,8 @@ use Rattle.record.specs.Fields.{headWidth, Optional}
 use Rattle.writing.specs.Widths.{widthAfter, capped, allInside}
 use Rattle.writing.specs.Write.{optionalOf, fieldText, optionalText, recordText}
 use Rattle.writing.specs.declared.entries.Entry.{Entry}
-use Rattle.writing.proofs.Records.{width-least}
-use Rattle.lent_parts.specs.Faults.{fieldsText}
 use Rattle.writing.proofs.Widths.{record-wide, capped-above, capped-below}
+use Rattle.lent_parts.specs.Faults.{fieldsText}
 
 -- a record without its last field
 unfoldable pub front : List ℕ → List Optional → List ℕ

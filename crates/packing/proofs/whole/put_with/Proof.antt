@@ -1,6 +1,6 @@
 -- `packing::whole::put_with` meets its contract: the record of the table's fields, from its last field on the parts' fields, and the last field.
 use mathlib.Core.Path.{_≡_, _∙_, sym, ap}
-use Prim.Native.Nat.{_+_, _-_, _≤_}
+use Prim.Native.Nat.{_-_, _≤_}
 use native.Mathlib.Omega.{arith}
 use lib.ListN.{length}
 use lib.Seq.{length-sets}
@@ -10,7 +10,6 @@ use Rattle.writing.specs.Write.{entries, optionalOf}
 use Rattle.writing.proofs.Records.{width-least}
 use Rattle.writing.proofs.Widths.{capped-below}
 use Rattle.parts.specs.Fields.{lentFields}
-use Rattle.lent_parts.specs.Faults.{fieldsText}
 use Rattle.packing.proofs.Stored.{front, front-wide, joined-stored}
 use borrow.Author.Needs.{needs}
 use Rattle.packing.proofs.whole.put_with.Statement.{statement}
