@@ -1,11 +1,11 @@
 -- What loops ask of lent parts, and how long their fields become.
 use mathlib.Core.Path.{_≡_, _∙_, refl, ap}
-use mathlib.Core.Bool.{true, _&&_}
+use mathlib.Core.Bool.{_&&_}
 use mathlib.Core.List.{List, [], _∷_, _++_}
 use Prim.Native.Nat.{ℕ, suc, _+_, _-_, _*_, _≤_, _<_}
 use native.Mathlib.Nat.{zero-add}
 use native.Mathlib.Omega.{arith}
-use lib.ListN.{length, take, drop, getD, length-append}
+use lib.ListN.{length, getD, length-append}
 use lib.Seq.{slice, take-at, drop-at}
 use Rattle.cells.specs.Bytes.{among}
 use Rattle.cells.proofs.Bools.{and-true}
@@ -44,18 +44,12 @@ loops-next s n j h =
     ap (areLoops (n - j)) (fields-next s n j h)
     ∙ rw (e, take-at (lentLoop s (j * partWidth)) others loopFields l, drop-at (lentLoop s (j * partWidth)) others loopFields l)
 
--- or there is none left
-pub loops-end : (n j : ℕ) (fs : List Optional) → n ≤ j → areLoops (n - j) fs ≡ true
-unfolding areLoops
-loops-end n j fs h =
-    let e : n - j ≡ 0 = omega arith in
-    rw e
-
 -- a field has five bytes before its content
 abbrev widths : List Optional → ℕ
 widths [] = 0
 widths (f ∷ fs) = 5 + length (f .content) + widths fs
 
+-- so the text of fields is as long as this
 text-width : (fs : List Optional) → length (fieldsText fs) ≡ widths fs
 unfolding fieldsText fieldText
 text-width [] = refl
@@ -66,15 +60,17 @@ text-width (f ∷ fs) =
     let i = text-width fs in
     omega arith
 
+-- fields and others are as long as both
 widths-append : (xs ys : List Optional) → widths (xs ++ ys) ≡ widths xs + widths ys
 widths-append [] ys = rw zero-add
 widths-append (x ∷ xs) ys = let i = widths-append xs ys in omega arith
 
--- qualifiers have two bytes, currencies three
+-- a price's qualifier has two bytes, its currency three
 price-widths : (s : List ℕ) (at : ℕ) → (length (lentPrice s at .qualifier) ≡ 2) × (length (lentPrice s at .currency) ≡ 3)
 unfolding lentPrice
 price-widths s at = (fitted-length 2 _, fitted-length 3 _)
 
+-- an article's qualifier has two
 article-width : (s : List ℕ) (at : ℕ) → length (lentArticle s at .qualifier) ≡ 2
 unfolding lentArticle
 article-width s at = fitted-length 2 _

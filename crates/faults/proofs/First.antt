@@ -14,22 +14,24 @@ use Rattle.parts.specs.Fields.{partTexts, withIds, partFields, lentLoop, lentFi
 use Rattle.lent_parts.specs.Faults.{isKept, firstFault, priceLoop}
 use Rattle.faults.proofs.Lent.{articleLoop, loop-is, fields-next, fields-end}
 
--- it is the first, or is among the others
+-- of a field and others
 module _ (f : Optional) (fs : List Optional) where
+  -- it is the field
   pub fault-here : isKept (f .id) (f .content) ≡ false → firstFault (f ∷ fs) ≡ 0
   unfolding firstFault
   fault-here e = rw e
 
+  -- or is among the others
   pub fault-next : isKept (f .id) (f .content) ≡ true → firstFault (f ∷ fs) ≡ suc (firstFault fs)
   unfolding firstFault
   fault-next e = rw e
 
--- where there is none in none
+-- in no fields there is none
 pub no-fault : firstFault [] ≡ 0
 unfolding firstFault
 no-fault = refl
 
--- it is in the fields in front
+-- of fields and others it is in those in front
 fault-in : (xs ys : List Optional) → firstFault xs < length xs → firstFault (xs ++ ys) ≡ firstFault xs
 fault-in [] ys h = absurd (not-suc-le-zero h)
 fault-in (x ∷ xs) ys h =
@@ -47,6 +49,7 @@ fault-past (x ∷ xs) ys h =
 
 -- in a lent part
 module _ (s : List ℕ) (at : ℕ) where
+  -- the first of each price
   abbrev net : ℕ
   net = firstFault (priceLoop (lentPrice s (at + netAt)))
 
@@ -58,6 +61,7 @@ module _ (s : List ℕ) (at : ℕ) where
   bad-tax e = ap firstFault (loop-is s at) ∙ fault-here _ _ e
 
   module _ (t : isKept 1019 (getD s at 0 ∷ []) ≡ true) where
+    -- or behind it
     prices : firstFault (lentLoop s at) ≡ suc (firstFault (priceLoop (lentPrice s (at + netAt)) ++ (priceLoop (lentPrice s (at + listAt)) ++ articleLoop s at)))
     prices = ap firstFault (loop-is s at) ∙ fault-next _ _ t
 
@@ -69,6 +73,7 @@ module _ (s : List ℕ) (at : ℕ) where
         omega arith
 
     module _ (n : 3 ≤ net) where
+      -- or behind the net price
       list-price : firstFault (lentLoop s at) ≡ 4 + firstFault (priceLoop (lentPrice s (at + listAt)) ++ articleLoop s at)
       list-price =
           let e = prices in

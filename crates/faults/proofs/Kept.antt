@@ -1,6 +1,6 @@
 -- What keeps a content of a loop, by its ID, and that its bytes may stand there then.
-use mathlib.Core.Path.{_≡_, _∙_, refl, sym, ap}
-use mathlib.Core.Bool.{Bool, true, false, not, _&&_, false≢true}
+use mathlib.Core.Path.{_≡_, _∙_, refl, ap}
+use mathlib.Core.Bool.{Bool, true, false, _&&_, false≢true}
 use mathlib.Core.List.{List, [], _∷_}
 use Prim.Native.Nat.{ℕ, zero, suc, _+_, _^_, _/_, _%_, _≤_, _<_}
 use native.Mathlib.Nat.{not-suc-le-zero}
@@ -11,7 +11,7 @@ use lib.ListN.{length}
 use Rattle.cells.specs.Bytes.{bytes, within, all, same, among}
 use Rattle.cells.proofs.Bools.{split, and-left, and-right, and-true, and-false}
 use Rattle.cells.proofs.Lists.{same-true, all-weaker, all-append}
-use Rattle.rules.specs.Class.{digit, belongs, allOf, ofClass}
+use Rattle.rules.specs.Class.{belongs, allOf, ofClass}
 use Rattle.rules.specs.Rule.{texts, keeps}
 use Rattle.rules.specs.declared.class.Class.{Class}
 use Rattle.rules.specs.declared.class.Class.the-variants.{Any, Digit, Capital}
@@ -19,7 +19,7 @@ use Rattle.rules.specs.declared.rule.Texts.the-variants.{PartTax}
 use Rattle.record.specs.Contents.{contents, isIn, ruleIn, contentRule}
 use Rattle.writing.specs.Digits.{digitsOf, unwritable, numberBytes}
 use Rattle.writing.specs.Write.{contentByte}
-use Rattle.writing.proofs.Decimals.{digits-length, unwritable-length, number-length}
+use Rattle.writing.proofs.Decimals.{unwritable-length, number-length}
 use Rattle.parts.specs.Part.{mostDigits, articleWidth}
 use Rattle.parts.specs.Fields.{amountText, articleText, mediumText}
 use Rattle.parts.specs.declared.part.Medium.{Medium}
@@ -41,38 +41,44 @@ content-within least most b l m e =
     let t = leb-true b most (and-right (leb least b) (leb b most) e) in
     rw (le-leb 32 b (omega arith), le-leb b 126 (omega arith), ne-eqb b 42 (λ q. omega (arith, q)))
 
--- so many bytes of a class are bytes of the class
-of-class : (c : Class) (least most : ℕ) (s : List ℕ) → ofClass c least most s ≡ true → all (belongs c) s ≡ true
+-- so many bytes of a class that may stand there do so
+class-content : (c : Class) (least most : ℕ) (s : List ℕ) → ((b : ℕ) → belongs c b ≡ true → contentByte b ≡ true)
+    → all contentByte s && ofClass c least most s ≡ ofClass c least most s
 unfolding ofClass allOf
-of-class c least most s e = and-right (within least most (length s)) (all (belongs c) s) e
+class-content c least most s w =
+    implied _ _ (λ e. all-weaker (belongs c) contentByte w s (and-right (within least most (length s)) (all (belongs c) s) e))
 
-digit-content : (b : ℕ) → belongs Digit b ≡ true → contentByte b ≡ true
-unfolding belongs
-digit-content b e = content-within 48 57 b (omega arith) (omega arith) e
-
+-- capitals may
 capital-content : (b : ℕ) → belongs Capital b ≡ true → contentByte b ≡ true
 unfolding belongs
 capital-content b e = content-within 65 90 b (omega arith) (omega arith) e
 
+-- and digits
+digit-content : (b : ℕ) → belongs Digit b ≡ true → contentByte b ≡ true
+unfolding belongs
+digit-content b e = content-within 48 57 b (omega arith) (omega arith) e
+
 -- an amount is five to fifteen digits
 amount-kept : (s : List ℕ) → isKept 1029 s ≡ ofClass Digit 5 15 s
 unfolding isKept keeps contents isIn ruleIn contentRule
-amount-kept s = implied _ _ (λ e. all-weaker (belongs Digit) contentByte digit-content s (of-class Digit 5 15 s e))
+amount-kept s = class-content Digit 5 15 s digit-content
 
--- qualifiers are two capitals, a currency is three
+-- a price's qualifier is two capitals
 pub qualifier-kept : (s : List ℕ) → isKept 1030 s ≡ ofClass Capital 2 2 s
 unfolding isKept keeps contents isIn ruleIn contentRule
-qualifier-kept s = implied _ _ (λ e. all-weaker (belongs Capital) contentByte capital-content s (of-class Capital 2 2 s e))
+qualifier-kept s = class-content Capital 2 2 s capital-content
 
+-- so is an article's
 pub article-qualifier-kept : (s : List ℕ) → isKept 1102 s ≡ ofClass Capital 2 2 s
 unfolding isKept keeps contents isIn ruleIn contentRule
-article-qualifier-kept s = implied _ _ (λ e. all-weaker (belongs Capital) contentByte capital-content s (of-class Capital 2 2 s e))
+article-qualifier-kept s = class-content Capital 2 2 s capital-content
 
+-- a currency is three
 pub currency-kept : (s : List ℕ) → isKept 1032 s ≡ ofClass Capital 3 3 s
 unfolding isKept keeps contents isIn ruleIn contentRule
-currency-kept s = implied _ _ (λ e. all-weaker (belongs Capital) contentByte capital-content s (of-class Capital 3 3 s e))
+currency-kept s = class-content Capital 3 3 s capital-content
 
--- a tax mark is one of three texts, of bytes that may stand there
+-- the three texts of a tax mark are of bytes that may stand there
 tax-content : (s : List ℕ) → among s (texts PartTax) ≡ true → all contentByte s ≡ true
 unfolding texts among all
 tax-content s e =
@@ -80,6 +86,7 @@ tax-content s e =
     (λ p. split (same s (bytes "1")) (λ q. ap (all contentByte) (same-true s (bytes "1") q))
     (λ q. split (same s (bytes "2")) (λ r. ap (all contentByte) (same-true s (bytes "2") r)) (λ r. absurd (false≢true (rw (p, q, r) at e)))))
 
+-- a tax mark is one of them
 pub tax-kept : (s : List ℕ) → isKept 1019 s ≡ among s (texts PartTax)
 unfolding isKept keeps contents isIn ruleIn contentRule
 tax-kept s = implied _ _ (tax-content s)
@@ -115,17 +122,20 @@ long : (s : List ℕ) → 5 ≤ length s → length s ≤ mostDigits → isKept 
 unfolding ofClass allOf
 long s h l = amount-kept s ∙ rw (le-leb 5 (length s) h, le-leb (length s) 15 l)
 
--- a price's amount, by the number of its digits
+-- a price's amount
 module _ (p : PartPrice) where
+  -- of too few digits is not kept
   pub amount-few : p .digits < 5 → isKept 1029 (amountText p) ≡ false
   amount-few h =
       let t = amount-written p (omega arith) in
       let l = number-length (p .digits) (p .amount .0) in
       ap (isKept 1029) t ∙ short _ (rw l h)
 
+  -- nor of too many
   pub amount-many : mostDigits < p .digits → isKept 1029 (amountText p) ≡ false
   amount-many h = ap (isKept 1029) (amount-broken p h) ∙ short (unwritable 1) (rw (unwritable-length 1) (omega arith))
 
+  -- any other is, where it is below ten to their number
   pub amount-within : 5 ≤ p .digits → p .digits ≤ mostDigits → isKept 1029 (amountText p) ≡ ltb (p .amount .0) (10 ^ p .digits)
   unfolding numberBytes
   amount-within h l =
@@ -147,14 +157,16 @@ pub article-kept : (s : List ℕ) → 0 < length s → length s ≤ articleWidth
 unfolding isKept keeps contents isIn ruleIn contentRule ofClass allOf
 article-kept s h l = rw (le-leb 1 (length s) h, le-leb (length s) 35 l, any-all s) (and-true _)
 
--- one of none, or of more, is not
+-- an article
 module _ (a : PartArticle) where
+  -- of no bytes is not
   pub article-none : a .length ≡ 0 → isKept 1101 (articleText a) ≡ false
   unfolding isKept keeps contents isIn ruleIn contentRule ofClass all
   article-none e =
       let t : articleText a ≡ [] = article-written a (omega arith) ∙ rw e in
       ap (isKept 1101) t
 
+  -- nor of more
   pub article-long : articleWidth < a .length → isKept 1101 (articleText a) ≡ false
   unfolding isKept unwritable all
   article-long h = ap (isKept 1101) (article-broken a h)

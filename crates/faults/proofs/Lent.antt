@@ -1,9 +1,9 @@
 -- The values of a lent part where they stand, and its fields as those of its prices and of its article.
-use mathlib.Core.Path.{_≡_, _∙_, refl, ap}
+use mathlib.Core.Path.{_≡_, _∙_, refl}
 use mathlib.Core.List.{List, [], _∷_, _++_}
 use Prim.Native.Nat.{ℕ, suc, _+_, _-_, _*_, _≤_, _<_}
 use native.Mathlib.Omega.{arith}
-use lib.ListN.{length, take, getD, replicate}
+use lib.ListN.{length, getD, replicate}
 use lib.Seq.{slice, take-all, take-at, length-slice}
 use Rattle.cells.proofs.Parts.{next, nothing}
 use Rattle.record.specs.Fields.{Optional}
@@ -18,21 +18,25 @@ use Rattle.faults.proofs.Texts.{article-written}
 stands : (room from to : ℕ) (s : List ℕ) → to ≤ length s → from + room ≡ to → fitted room (slice from to s) ≡ slice from to s
 stands room from to s h e = fitted-whole room (slice from to s) (length-slice from to s h ∙ omega arith)
 
--- a price's qualifier and currency
+-- of a price
 module _ (s : List ℕ) (at : ℕ) (h : at + priceWidth ≤ length s) where
+  -- the qualifier
   pub qualifier-is : lentPrice s at .qualifier ≡ slice (at + priceQualifierAt) (at + currencyAt) s
   unfolding lentPrice
   qualifier-is = stands 2 (at + priceQualifierAt) (at + currencyAt) s (omega arith) (omega arith)
 
+  -- and the currency
   pub currency-is : lentPrice s at .currency ≡ slice (at + currencyAt) (at + priceWidth) s
   unfolding lentPrice
   currency-is = stands 3 (at + currencyAt) (at + priceWidth) s (omega arith) (omega arith)
 
--- a part's tax mark, its article, where this is not too long, and the article's qualifier
+-- of a part
 module _ (s : List ℕ) (at : ℕ) (h : at + partWidth ≤ length s) where
+  -- the tax mark
   pub tax-is : getD s at 0 ∷ [] ≡ slice at (at + 1) s
   tax-is = rw (next s at (at + 1) (omega arith) (omega arith), nothing (at + 1) (at + 1) s (omega arith))
 
+  -- the article, where it is not too long
   pub article-is : getD s (at + lengthAt) 0 ≤ articleWidth
       → articleText (lentArticle s at) ≡ slice (at + articleAt) (at + articleAt + getD s (at + lengthAt) 0) s
   unfolding lentArticle fitted
@@ -43,6 +47,7 @@ module _ (s : List ℕ) (at : ℕ) (h : at + partWidth ≤ length s) where
       article-written (lentArticle s at) l
       ∙ rw (take-all articleWidth x (omega arith)) (take-at x (replicate (articleWidth - length x) 0) n k)
 
+  -- and its qualifier
   pub article-qualifier-is : lentArticle s at .qualifier ≡ slice (at + articleQualifierAt) (at + partWidth) s
   unfolding lentArticle
   article-qualifier-is = stands 2 (at + articleQualifierAt) (at + partWidth) s (omega arith) (omega arith)

@@ -11,7 +11,8 @@ use Rattle.rules.specs.declared.rule.Texts.the-variants.{NetPrice, ListPrice}
 use Rattle.parts.specs.Loops.{areLoops}
 use Rattle.parts.specs.Part.{partWidth}
 use Rattle.parts.specs.Fields.{lentFields}
-use Rattle.faults.proofs.Asked.{loop-asks, loops-next, loops-end}
+use Rattle.parts.proofs.Series.{loops-end}
+use Rattle.faults.proofs.Asked.{loop-asks, loops-next}
 use borrow.Author.Needs.{needs}
 use Rattle.faults.proofs.are_lent_loops.Statement.{statement}
 use Rattle.faults.proofs.are_lent_loops.Tie as tie
@@ -108,10 +109,12 @@ loop-again c =
     let l = d .before .before .before .before in
     let start = l .before .before in
     let s = start .args .s .now in
-    let h = d .before .before .before .loop-test .taken in
-    (search needs, l .loop .inv .1
-    ∙ loops-next s (start .args .n) (l .loop .j) h
-    ∙ rw (loop-asks s (l .loop .j * partWidth) (omega (arith, h, start .pre .1)), is-so (net (d .before)) (d .if1 .left), is-so (list (c .before)) (c .if2 .left)))
+    let h = d .before .before .before .loop-test .taken in (
+      search needs,
+      l .loop .inv .1
+          ∙ loops-next s (start .args .n) (l .loop .j) h
+          ∙ rw (loop-asks s (l .loop .j * partWidth) (omega (arith, h, start .pre .1)), is-so (net (d .before)) (d .if1 .left), is-so (list (c .before)) (c .if2 .left)),
+    )
 
 returns-3 : tie.Need-returns-3 Inv-loop μ-loop
 returns-3 c =

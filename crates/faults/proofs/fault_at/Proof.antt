@@ -1,7 +1,7 @@
 -- `faults::fault_at` meets its contract: the tax mark, the prices, the article and the medium are judged one after the other.
 use mathlib.Core.Path.{_≡_, _∙_, sym, ap}
 use mathlib.Core.List.{List, [], _∷_}
-use Prim.Native.Nat.{ℕ, suc, _+_, _≤_}
+use Prim.Native.Nat.{ℕ, suc, _+_}
 use native.Mathlib.Omega.{arith}
 use lib.ListN.{getD}
 use Rattle.cells.specs.Bytes.{among}
@@ -10,9 +10,9 @@ use Rattle.rules.specs.Class.{ofClass}
 use Rattle.rules.specs.Rule.{texts}
 use Rattle.rules.specs.declared.class.Class.the-variants.{Capital}
 use Rattle.rules.specs.declared.rule.Texts.the-variants.{PartTax}
-use Rattle.parts.specs.Part.{lentPrice, lentArticle}
+use Rattle.parts.specs.Part.{lentArticle}
 use Rattle.parts.specs.Fields.{lentLoop}
-use Rattle.lent_parts.specs.Faults.{isKept, firstFault, priceLoop}
+use Rattle.lent_parts.specs.Faults.{isKept, firstFault}
 use Rattle.faults.proofs.Kept.{tax-kept, article-qualifier-kept, medium-kept}
 use Rattle.faults.proofs.Lent.{tax-is, article-qualifier-is, articleLoop}
 use Rattle.faults.proofs.First.{fault-here, fault-next, no-fault, bad-tax, bad-net, bad-list, behind}

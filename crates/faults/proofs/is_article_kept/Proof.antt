@@ -1,8 +1,8 @@
 -- `faults::is_article_kept` meets its contract: an article of one to thirty-five bytes that may stand there is kept.
-use mathlib.Core.Path.{_≡_, _∙_, sym, ap}
-use Prim.Native.Nat.{_+_, _≤_}
+use mathlib.Core.Path.{_∙_, sym, ap}
+use Prim.Native.Nat.{_+_}
 use native.Mathlib.Omega.{arith}
-use lib.ListN.{length, getD}
+use lib.ListN.{getD}
 use lib.Seq.{slice, length-slice}
 use Rattle.parts.specs.Part.{lentArticle}
 use Rattle.lent_parts.specs.Faults.{isKept}
