@@ -118,17 +118,17 @@ module _ (s : List ℕ) (from : ℕ) (h : from + partWidth ≤ length s) (k : fi
       article-kept 1101 (lentArticle s from) article-may
       ∙ rw (take-all articleWidth x (omega (arith, article-long, width-most))) (take-at x (replicate (articleWidth - length x) 0) w article-long)
 
+  qualifier-same : lentArticle s from .qualifier ≡ slice (from + articleQualifierAt) (from + partWidth) s
+  unfolding lentArticle
+  qualifier-same = fitted-whole 2 (slice (from + articleQualifierAt) (from + partWidth) s) qualifier-long
+
   -- the fields in the order in which they are put
   as-put : lentLoop s from
       ≡ (taxField s from ∷ []) ++ (priceLoop (lentPrice s (from + netAt)) ++ (priceLoop (lentPrice s (from + listAt)) ++ ((articleField s from ∷ []) ++ ((qualifierField s from ∷ []) ++ (mediumField s from ∷ [])))))
   unfolding lentLoop partFields partTexts withIds loop lentPart
   as-put =
       let t : slice from (from + 1) s ≡ getD s from 0 ∷ [] = next s from (from + 1) (omega arith) (omega arith) ∙ ap (λ (xs : List ℕ). getD s from 0 ∷ xs) (nothing (from + 1) (from + 1) s (omega arith)) in
-      let q : lentArticle s from .qualifier ≡ slice (from + articleQualifierAt) (from + partWidth) s = qualifier-whole in
-      rw (t, ← article-same, ← q, is-named)
-    where
-      qualifier-whole : lentArticle s from .qualifier ≡ slice (from + articleQualifierAt) (from + partWidth) s
-      qualifier-whole = fitted-whole 2 (slice (from + articleQualifierAt) (from + partWidth) s) qualifier-long
+      rw (t, ← article-same, ← qualifier-same, is-named)
 
   -- they are so long
   pub loop-long : length (fieldsText (lentLoop s from))

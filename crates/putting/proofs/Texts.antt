@@ -1,7 +1,7 @@
 -- Fields stored one after the other, and where they end.
 use mathlib.Core.Path.{_≡_, _∙_, ap, sym, refl}
 use mathlib.Core.List.{List, [], _∷_, _++_, append-nil, append-assoc}
-use Prim.Native.Nat.{ℕ, suc, _+_}
+use Prim.Native.Nat.{ℕ, suc, _+_, _≤_}
 use native.Mathlib.Numerals.{add-one}
 use native.Mathlib.Omega.{arith}
 use lib.ListN.{length, set, length-append}
@@ -62,3 +62,17 @@ pub both : (l : List ℕ) (at : ℕ) (fs gs : List Optional) {d e : List ℕ} {m
 both l at fs gs p q =
     (rw (fields-append fs gs) (sets-then l at (length (fieldsText fs)) (fieldsText fs) (fieldsText gs) (p .0) refl (p .1) (q .0)),
     omega (arith, p .1, q .1, fields-length fs gs))
+
+-- a content stored behind the head of its field
+pub behind : (l : List ℕ) (at w : ℕ) (f : Optional) {i : ℕ} {h d x : List ℕ} → i ≡ f .id → x ≡ f .content → length x ≡ w
+    → h ≡ sets l at (fieldText (record { id = i; content = [] })) → d ≡ sets h (at + headWidth) x → Put l at (f ∷ []) d (at + headWidth + w)
+behind l at w f {i} {h} {d} {x} p q e a b =
+    one l at f {i = i} {x = x} {d = d} p q (b ∙ rw a (field-stored l at i x), rw e)
+
+-- a field fits where there is room for its content behind the one before
+pub field-fits : (at m : ℕ) (y : List ℕ) {r : ℕ} {x : List ℕ} → r ≡ at → x ≡ y → at + headWidth + length y ≤ m → r + headWidth + length x ≤ m
+field-fits at m y p q h = rw (p, q) h
+
+-- fields fit where there is room for them behind the ones before
+pub fields-fit : (at m n : ℕ) {r : ℕ} → r ≡ at → at + n ≤ m → r + n ≤ m
+fields-fit at m n p h = rw p h

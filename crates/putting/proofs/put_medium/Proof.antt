@@ -23,7 +23,7 @@ unfolding loop
 returns c =
     let put = c .before .before in
     let start = put .before .before .before .before .before .before in
-    (rw (put .put-field .ensures .0, put .before .before .member-id .ensures, first-medium (start .args .medium) (c .x)), put .put-field .ensures .1)
+    (rw (put .put-field .ensures .0, put .before .before .member-id .ensures, first-medium (start .args .medium) (put .before .before .before .before .if1 .taken)), put .put-field .ensures .1)
 
 member-id-requires-2 : tie.Need-member-id-requires-2
 member-id-requires-2 c κs = search needs
@@ -42,7 +42,7 @@ unfolding loop
 returns-2 c =
     let put = c .before .before in
     let start = put .before .before .before .before .before .before in
-    (rw (put .put-field2 .ensures .0, put .before .before .member-id2 .ensures, second-medium (start .args .medium) (start .pre .0) (c .x)), put .put-field2 .ensures .1)
+    (rw (put .put-field2 .ensures .0, put .before .before .member-id2 .ensures, second-medium (start .args .medium) (start .pre .0) (put .before .before .before .before .if1 .left)), put .put-field2 .ensures .1)
 
 pub put-medium-spec : {M : Type 1} → statement M
 put-medium-spec =
