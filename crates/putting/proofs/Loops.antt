@@ -26,15 +26,21 @@ part-long s from to w e h = length-slice from to s h ∙ omega arith
 
 -- the values of a price that stands lent, as they are put
 module _ (s : List ℕ) (from : ℕ) (h : from + priceWidth ≤ length s) where
+  -- their lengths
+  pub two-long : length (slice (from + priceQualifierAt) (from + currencyAt) s) ≡ 2
+  two-long = part-long s (from + priceQualifierAt) (from + currencyAt) 2 (omega arith) (omega arith)
+
+  pub three-long : length (slice (from + currencyAt) (from + priceWidth) s) ≡ 3
+  three-long = part-long s (from + currencyAt) (from + priceWidth) 3 (omega arith) (omega arith)
+
+  -- each is what stands there
   pub qualifier-put : slice (from + priceQualifierAt) (from + currencyAt) s ≡ lentPrice s from .qualifier
   unfolding lentPrice
-  qualifier-put =
-      sym (fitted-whole 2 (slice (from + priceQualifierAt) (from + currencyAt) s) (part-long s (from + priceQualifierAt) (from + currencyAt) 2 (omega arith) (omega arith)))
+  qualifier-put = sym (fitted-whole 2 (slice (from + priceQualifierAt) (from + currencyAt) s) two-long)
 
   pub currency-put : slice (from + currencyAt) (from + priceWidth) s ≡ lentPrice s from .currency
   unfolding lentPrice
-  currency-put =
-      sym (fitted-whole 3 (slice (from + currencyAt) (from + priceWidth) s) (part-long s (from + currencyAt) (from + priceWidth) 3 (omega arith) (omega arith)))
+  currency-put = sym (fitted-whole 3 (slice (from + currencyAt) (from + priceWidth) s) three-long)
 
   -- an amount that can be written is put as its digits
   module _ (k : isKept 1029 (amountText (lentPrice s from)) ≡ true) where
@@ -55,8 +61,8 @@ module _ (s : List ℕ) (from : ℕ) (h : from + priceWidth ≤ length s) where
         let b = first-length (record { id = 1030; content = p .qualifier }) (record { id = 1032; content = p .currency } ∷ []) in
         let c = first-length (record { id = 1032; content = p .currency }) [] in
         let d : length (amountText p) ≡ getD s (from + digitsAt) 0 = rw (← amount-put) (digits-length (getD s (from + digitsAt) 0) (leAt s from amountWidth)) in
-        let q : length (p .qualifier) ≡ 2 = rw (← qualifier-put) (part-long s (from + priceQualifierAt) (from + currencyAt) 2 (omega arith) (omega arith)) in
-        let u : length (p .currency) ≡ 3 = rw (← currency-put) (part-long s (from + currencyAt) (from + priceWidth) 3 (omega arith) (omega arith)) in
+        let q : length (p .qualifier) ≡ 2 = rw (← qualifier-put) two-long in
+        let u : length (p .currency) ≡ 3 = rw (← currency-put) three-long in
         omega (arith, a, b, c, d, q, u)
 
 -- the fields of a lent part that are not of a price, as they are put

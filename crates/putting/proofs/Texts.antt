@@ -69,10 +69,16 @@ pub behind : (l : List ℕ) (at w : ℕ) (f : Optional) {i : ℕ} {h d x : List 
 behind l at w f {i} {h} {d} {x} p q e a b =
     one l at f {i = i} {x = x} {d = d} p q (b ∙ rw a (field-stored l at i x), rw e)
 
--- a field fits where there is room for its content behind the one before
-pub field-fits : (at m : ℕ) (y : List ℕ) {r : ℕ} {x : List ℕ} → r ≡ at → x ≡ y → at + headWidth + length y ≤ m → r + headWidth + length x ≤ m
-field-fits at m y p q h = rw (p, q) h
+-- where a field ends, and where fields end
+pub field-end : (at w : ℕ) {r b : ℕ} {x y : List ℕ} → r ≡ b + headWidth + length x → b ≡ at → x ≡ y → length y ≡ w → r ≡ at + (headWidth + w)
+field-end at w p q e l = p ∙ rw (q, e, l) (omega arith)
 
--- fields fit where there is room for them behind the ones before
-pub fields-fit : (at m n : ℕ) {r : ℕ} → r ≡ at → at + n ≤ m → r + n ≤ m
-fields-fit at m n p h = rw p h
+pub fields-end : (at n : ℕ) {r b : ℕ} → r ≡ b + n → b ≡ at → r ≡ at + n
+fields-end at n p q = p ∙ rw q
+
+-- there is room where others end for a field, and for fields
+pub field-fits : (at w m : ℕ) {r k : ℕ} {x y : List ℕ} → r ≡ at → x ≡ y → length y ≡ w → k ≡ m → at + (headWidth + w) ≤ m → r + headWidth + length x ≤ k
+field-fits at w m p q l e h = rw (p, q, l, e) (omega (arith, h))
+
+pub fields-fit : (at n m : ℕ) {r k : ℕ} → r ≡ at → k ≡ m → at + n ≤ m → r + n ≤ k
+fields-fit at n m p e h = rw (p, e) h

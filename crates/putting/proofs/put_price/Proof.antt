@@ -11,8 +11,8 @@ use Rattle.rules.proofs.Parts.{part-most}
 use Rattle.parts.specs.Loops.{loop}
 use Rattle.parts.specs.Part.{lentPrice}
 use Rattle.parts.specs.Fields.{amountText}
-use Rattle.putting.proofs.Texts.{one, both, behind, field-fits}
-use Rattle.putting.proofs.Loops.{digits-most, amount-put, price-long, qualifier-put, currency-put}
+use Rattle.putting.proofs.Texts.{one, both, behind, field-end, field-fits}
+use Rattle.putting.proofs.Loops.{digits-most, amount-put, price-long, qualifier-put, currency-put, two-long, three-long}
 use borrow.Author.Needs.{needs}
 use Rattle.putting.proofs.put_price.Statement.{statement}
 use Rattle.putting.proofs.put_price.Tie as tie
@@ -87,10 +87,14 @@ part-requires-2 c κs = search needs
 put-field-requires-2 : tie.Need-put-field-requires-2
 put-field-requires-2 c κs = 
     let start = c .before .before .before .before .before .before .before .before .before .before .before .before .before .before .before .before .before .before .before .before .before .before in
-    let s = start .args .s .now in
+    let a = start .args in
+    let s = a .s .now in
     let first = c .before .before .before .before .before in
-    field-fits _ (length (first .put-field .last .0)) _ (first .put-field .ensures .1) (c .part2 .ensures)
-    (omega (arith, first .put-field .kept .0, price-long s (start .args .from) (start .pre .0) (start .pre .1), ap length (first .before .part .ensures), part-most (start .args .from + 9) (start .args .from + 11) s, part-most (start .args .from + 11) (start .args .from + 14) s))
+    let digits = first .before .before .before .before .before .before in
+    let e = field-end (a .at + 5 + getD s (a .from + 8) 0) 2 (first .put-field .ensures .1) refl (first .before .part .ensures) (two-long s (a .from) (start .pre .0)) in
+    field-fits _ 3 (length (a .out .now)) e (c .part2 .ensures) (three-long s (a .from) (start .pre .0))
+    (first .put-field .kept .0 ∙ digits .put-digits .kept .0 ∙ digits .before .before .before .before .before .put-head .kept .0)
+    (omega (arith, start .pre .2, price-long s (a .from) (start .pre .0) (start .pre .1)))
 
 same-length : tie.Need-same-length
 same-length c = search needs
