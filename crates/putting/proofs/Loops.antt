@@ -4,12 +4,12 @@ use mathlib.Core.Bool.{true}
 use mathlib.Core.List.{List, [], _∷_, _++_}
 use Prim.Native.Nat.{ℕ, zero, suc, _+_, _-_, _*_, _≤_, _<_}
 use native.Mathlib.Omega.{arith}
-use lib.ListN.{length, take, getD, replicate, length-append}
+use lib.ListN.{length, getD, replicate, length-append}
 use lib.Seq.{slice, sets, length-slice, take-all, take-at}
 use Rattle.cells.specs.Little.{leAt}
 use Rattle.cells.proofs.Parts.{next, nothing}
 use Rattle.cells.proofs.Stores.{sets-append}
-use Rattle.record.specs.Fields.{Optional, headWidth}
+use Rattle.record.specs.Fields.{Optional}
 use Rattle.writing.specs.Digits.{digitsOf}
 use Rattle.writing.proofs.Decimals.{digits-length}
 use Rattle.parts.specs.Loops.{loop, loopFields}

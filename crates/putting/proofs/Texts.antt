@@ -59,9 +59,10 @@ one l at f p q r =
 
 -- fields stored where others end are stored with them
 pub both : (l : List ℕ) (at : ℕ) (fs gs : List Optional) {d e : List ℕ} {m n : ℕ} → Put l at fs d m → Put d m gs e n → Put l at (fs ++ gs) e n
-both l at fs gs p q =
-    (rw (fields-append fs gs) (sets-then l at (length (fieldsText fs)) (fieldsText fs) (fieldsText gs) (p .0) refl (p .1) (q .0)),
-    omega (arith, p .1, q .1, fields-length fs gs))
+both l at fs gs p q = (
+  rw (fields-append fs gs) (sets-then l at (length (fieldsText fs)) (fieldsText fs) (fieldsText gs) (p .0) refl (p .1) (q .0)),
+  omega (arith, p .1, q .1, fields-length fs gs),
+)
 
 -- a content stored behind the head of its field
 pub behind : (l : List ℕ) (at w : ℕ) (f : Optional) {i : ℕ} {h d x : List ℕ} → i ≡ f .id → x ≡ f .content → length x ≡ w

@@ -1,12 +1,11 @@
 -- `putting::put_loop` meets its contract: its ten fields are put one after the other.
 use mathlib.Core.Path.{_≡_, refl, ap, _∙_}
-use mathlib.Core.List.{[], _∷_}
 use Prim.Native.Nat.{ℕ, _+_}
 use native.Mathlib.Omega.{arith}
 use lib.ListN.{length, getD}
 use Rattle.record.specs.Fields.{headWidth}
 use Rattle.parts.specs.Loops.{loop}
-use Rattle.parts.specs.Part.{netAt, listAt, lengthAt, mediumAt, mediumIn, lentPrice}
+use Rattle.parts.specs.Part.{netAt, listAt, lengthAt, lentPrice}
 use Rattle.lent_parts.specs.Faults.{priceLoop, fieldsText}
 use Rattle.putting.proofs.Texts.{one, field-end, fields-end, field-fits, fields-fit}
 use Rattle.putting.proofs.Kept.{medium-long}
@@ -98,7 +97,7 @@ part-requires : tie.Need-part-requires
 part-requires c κs = search needs
 
 put-field-requires : tie.Need-put-field-requires
-put-field-requires c κs = 
+put-field-requires c κs =
     let start = c .before .before .before .before .before .before in
     let a = start .args in
     let s = a .s .now in
@@ -108,7 +107,7 @@ add-put-price : tie.Need-add-put-price
 add-put-price c = search needs
 
 put-price-requires : tie.Need-put-price-requires
-put-price-requires c κs = 
+put-price-requires c κs =
     let start = c .before .before .before .before .before .before .before .before .before .before in
     let a = start .args in
     let s = a .s .now in
@@ -119,7 +118,7 @@ add-put-price-2 : tie.Need-add-put-price-2
 add-put-price-2 c = search needs
 
 put-price-requires-2 : tie.Need-put-price-requires-2
-put-price-requires-2 c κs = 
+put-price-requires-2 c κs =
     let start = c .before .before .before .before .before .before .before .before .before .before .before .before .before .before in
     let a = start .args in
     let s = a .s .now in
@@ -130,7 +129,7 @@ member-id-requires-2 : tie.Need-member-id-requires-2
 member-id-requires-2 c κs = search needs
 
 add-part-2 : tie.Need-add-part-2
-add-part-2 c = 
+add-part-2 c =
     let start = c .before .before .before .before .before .before .before .before .before .before .before .before .before .before .before .before .before .before .before in
     let a = start .args in
     let s = a .s .now in
@@ -140,7 +139,7 @@ part-requires-2 : tie.Need-part-requires-2
 part-requires-2 c κs = search needs
 
 put-field-requires-2 : tie.Need-put-field-requires-2
-put-field-requires-2 c κs = 
+put-field-requires-2 c κs =
     let start = c .before .before .before .before .before .before .before .before .before .before .before .before .before .before .before .before .before .before .before .before in
     let a = start .args in
     let s = a .s .now in
@@ -151,12 +150,12 @@ member-id-requires-3 : tie.Need-member-id-requires-3
 member-id-requires-3 c κs = search needs
 
 add-part-3 : tie.Need-add-part-3
-add-part-3 c = 
+add-part-3 c =
     let start = c .before .before .before .before .before .before .before .before .before .before .before .before .before .before .before .before .before .before .before .before .before .before .before .before .before in
     omega (arith, start .pre .0)
 
 add-part-4 : tie.Need-add-part-4
-add-part-4 c = 
+add-part-4 c =
     let start = c .before .before .before .before .before .before .before .before .before .before .before .before .before .before .before .before .before .before .before .before .before .before .before .before .before in
     omega (arith, start .pre .0)
 
@@ -164,7 +163,7 @@ part-requires-3 : tie.Need-part-requires-3
 part-requires-3 c κs = search needs
 
 put-field-requires-3 : tie.Need-put-field-requires-3
-put-field-requires-3 c κs = 
+put-field-requires-3 c κs =
     let start = c .before .before .before .before .before .before .before .before .before .before .before .before .before .before .before .before .before .before .before .before .before .before .before .before .before .before in
     let a = start .args in
     let s = a .s .now in
@@ -172,17 +171,17 @@ put-field-requires-3 c κs =
     field-fits (a .at + (headWidth + 1) + length (fieldsText (priceLoop (lentPrice s (a .from + netAt)))) + length (fieldsText (priceLoop (lentPrice s (a .from + listAt)))) + (headWidth + getD s (a .from + lengthAt) 0)) _ _ (e .0) (c .part3 .ensures) (qualifier-long s (a .from) (start .pre .0) (start .pre .1)) (e .1) (omega (arith, start .pre .2, loop-long s (a .from) (start .pre .0) (start .pre .1)))
 
 add-put-medium : tie.Need-add-put-medium
-add-put-medium c = 
+add-put-medium c =
     let start = c .before .before .before .before .before .before .before .before .before .before .before .before .before .before .before .before .before .before .before .before .before .before .before .before .before .before .before .before .before .before in
     omega (arith, start .pre .0)
 
 shared-slice-read-put-medium : tie.Need-shared-slice-read-put-medium
-shared-slice-read-put-medium c = 
+shared-slice-read-put-medium c =
     let start = c .before .before .before .before .before .before .before .before .before .before .before .before .before .before .before .before .before .before .before .before .before .before .before .before .before .before .before .before .before .before .before in
     omega (arith, start .pre .0)
 
 put-medium-requires : tie.Need-put-medium-requires
-put-medium-requires c κs = 
+put-medium-requires c κs =
     let start = c .before .before .before .before .before .before .before .before .before .before .before .before .before .before .before .before .before .before .before .before .before .before .before .before .before .before .before .before .before .before .before in
     let a = start .args in
     let s = a .s .now in

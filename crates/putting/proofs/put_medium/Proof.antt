@@ -1,5 +1,4 @@
 -- `putting::put_medium` meets its contract: each medium by its name.
-use mathlib.Core.Path.{refl}
 use Rattle.parts.specs.Loops.{loop}
 use Rattle.putting.proofs.Kept.{first-medium, second-medium}
 use borrow.Author.Needs.{needs}

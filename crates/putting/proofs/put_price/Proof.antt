@@ -30,7 +30,7 @@ member-id-requires : tie.Need-member-id-requires
 member-id-requires c κs = search needs
 
 put-head-requires : tie.Need-put-head-requires
-put-head-requires c κs = 
+put-head-requires c κs =
     let start = c .before .before .before .before .before in
     omega (arith, price-long (start .args .s .now) (start .args .from) (start .pre .0) (start .pre .1))
 
@@ -41,7 +41,7 @@ word8-requires : tie.Need-word8-requires
 word8-requires c κs = search needs
 
 put-digits-requires : tie.Need-put-digits-requires
-put-digits-requires c κs = 
+put-digits-requires c κs =
     let start = c .before .before .before .before .before .before .before .before .before .before in
     let m = digits-most (start .args .s .now) (start .args .from) (start .pre .0) (start .pre .1) in
     (m, omega (arith, price-long (start .args .s .now) (start .args .from) (start .pre .0) (start .pre .1)))
@@ -50,7 +50,7 @@ add-next : tie.Need-add-next
 add-next c = search needs
 
 add-next-2 : tie.Need-add-next-2
-add-next-2 c = 
+add-next-2 c =
     let start = c .before .before .before .before .before .before .before .before .before .before .before .before .before in
     omega (arith, price-long (start .args .s .now) (start .args .from) (start .pre .0) (start .pre .1))
 
@@ -67,7 +67,7 @@ part-requires : tie.Need-part-requires
 part-requires c κs = search needs
 
 put-field-requires : tie.Need-put-field-requires
-put-field-requires c κs = 
+put-field-requires c κs =
     let start = c .before .before .before .before .before .before .before .before .before .before .before .before .before .before .before .before in
     let s = start .args .s .now in
     omega (arith, price-long s (start .args .from) (start .pre .0) (start .pre .1), ap length (c .part .ensures), part-most (start .args .from + 9) (start .args .from + 11) s)
@@ -85,7 +85,7 @@ part-requires-2 : tie.Need-part-requires-2
 part-requires-2 c κs = search needs
 
 put-field-requires-2 : tie.Need-put-field-requires-2
-put-field-requires-2 c κs = 
+put-field-requires-2 c κs =
     let start = c .before .before .before .before .before .before .before .before .before .before .before .before .before .before .before .before .before .before .before .before .before .before in
     let a = start .args in
     let s = a .s .now in
