@@ -1,5 +1,5 @@
 -- What fields say that can all be written.
-use mathlib.Core.Path.{_≡_, _∙_, ap, sym, refl}
+use mathlib.Core.Path.{_≡_, _∙_, ap, refl}
 use mathlib.Core.Bool.{Bool, true, false, false≢true}
 use mathlib.Core.List.{List, [], _∷_, _++_}
 use mathlib.Core.Logic.{_≢_}
@@ -9,7 +9,7 @@ use native.Mathlib.Omega.{arith}
 use borrow.Author.Tests.{leb-true, ne-eqb}
 use lib.Dec.{leb, ltb, eqb}
 use lib.ListN.{length, take}
-use Rattle.cells.specs.Bytes.{pick, all, bytes}
+use Rattle.cells.specs.Bytes.{all, bytes}
 use Rattle.cells.proofs.Bools.{split}
 use Rattle.record.specs.Fields.{Optional}
 use Rattle.writing.specs.Digits.{digitsOf, unwritable, numberBytes}

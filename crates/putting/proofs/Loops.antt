@@ -4,12 +4,12 @@ use mathlib.Core.Bool.{true}
 use mathlib.Core.List.{List, [], _∷_, _++_}
 use Prim.Native.Nat.{ℕ, zero, suc, _+_, _-_, _*_, _≤_, _<_}
 use native.Mathlib.Omega.{arith}
-use lib.ListN.{length, take, getD, replicate, length-append}
+use lib.ListN.{length, getD, replicate, length-append}
 use lib.Seq.{slice, sets, length-slice, take-all, take-at}
 use Rattle.cells.specs.Little.{leAt}
 use Rattle.cells.proofs.Parts.{next, nothing}
 use Rattle.cells.proofs.Stores.{sets-append}
-use Rattle.record.specs.Fields.{Optional, headWidth}
+use Rattle.record.specs.Fields.{Optional}
 use Rattle.writing.specs.Digits.{digitsOf}
 use Rattle.writing.proofs.Decimals.{digits-length}
 use Rattle.parts.specs.Loops.{loop, loopFields}
@@ -26,15 +26,21 @@ part-long s from to w e h = length-slice from to s h ∙ omega arith
 
 -- the values of a price that stands lent, as they are put
 module _ (s : List ℕ) (from : ℕ) (h : from + priceWidth ≤ length s) where
+  -- their lengths
+  pub two-long : length (slice (from + priceQualifierAt) (from + currencyAt) s) ≡ 2
+  two-long = part-long s (from + priceQualifierAt) (from + currencyAt) 2 (omega arith) (omega arith)
+
+  pub three-long : length (slice (from + currencyAt) (from + priceWidth) s) ≡ 3
+  three-long = part-long s (from + currencyAt) (from + priceWidth) 3 (omega arith) (omega arith)
+
+  -- each is what stands there
   pub qualifier-put : slice (from + priceQualifierAt) (from + currencyAt) s ≡ lentPrice s from .qualifier
   unfolding lentPrice
-  qualifier-put =
-      sym (fitted-whole 2 (slice (from + priceQualifierAt) (from + currencyAt) s) (part-long s (from + priceQualifierAt) (from + currencyAt) 2 (omega arith) (omega arith)))
+  qualifier-put = sym (fitted-whole 2 (slice (from + priceQualifierAt) (from + currencyAt) s) two-long)
 
   pub currency-put : slice (from + currencyAt) (from + priceWidth) s ≡ lentPrice s from .currency
   unfolding lentPrice
-  currency-put =
-      sym (fitted-whole 3 (slice (from + currencyAt) (from + priceWidth) s) (part-long s (from + currencyAt) (from + priceWidth) 3 (omega arith) (omega arith)))
+  currency-put = sym (fitted-whole 3 (slice (from + currencyAt) (from + priceWidth) s) three-long)
 
   -- an amount that can be written is put as its digits
   module _ (k : isKept 1029 (amountText (lentPrice s from)) ≡ true) where
@@ -55,8 +61,8 @@ module _ (s : List ℕ) (from : ℕ) (h : from + priceWidth ≤ length s) where
         let b = first-length (record { id = 1030; content = p .qualifier }) (record { id = 1032; content = p .currency } ∷ []) in
         let c = first-length (record { id = 1032; content = p .currency }) [] in
         let d : length (amountText p) ≡ getD s (from + digitsAt) 0 = rw (← amount-put) (digits-length (getD s (from + digitsAt) 0) (leAt s from amountWidth)) in
-        let q : length (p .qualifier) ≡ 2 = rw (← qualifier-put) (part-long s (from + priceQualifierAt) (from + currencyAt) 2 (omega arith) (omega arith)) in
-        let u : length (p .currency) ≡ 3 = rw (← currency-put) (part-long s (from + currencyAt) (from + priceWidth) 3 (omega arith) (omega arith)) in
+        let q : length (p .qualifier) ≡ 2 = rw (← qualifier-put) two-long in
+        let u : length (p .currency) ≡ 3 = rw (← currency-put) three-long in
         omega (arith, a, b, c, d, q, u)
 
 -- the fields of a lent part that are not of a price, as they are put
@@ -118,17 +124,17 @@ module _ (s : List ℕ) (from : ℕ) (h : from + partWidth ≤ length s) (k : fi
       article-kept 1101 (lentArticle s from) article-may
       ∙ rw (take-all articleWidth x (omega (arith, article-long, width-most))) (take-at x (replicate (articleWidth - length x) 0) w article-long)
 
+  qualifier-same : lentArticle s from .qualifier ≡ slice (from + articleQualifierAt) (from + partWidth) s
+  unfolding lentArticle
+  qualifier-same = fitted-whole 2 (slice (from + articleQualifierAt) (from + partWidth) s) qualifier-long
+
   -- the fields in the order in which they are put
   as-put : lentLoop s from
       ≡ (taxField s from ∷ []) ++ (priceLoop (lentPrice s (from + netAt)) ++ (priceLoop (lentPrice s (from + listAt)) ++ ((articleField s from ∷ []) ++ ((qualifierField s from ∷ []) ++ (mediumField s from ∷ [])))))
   unfolding lentLoop partFields partTexts withIds loop lentPart
   as-put =
       let t : slice from (from + 1) s ≡ getD s from 0 ∷ [] = next s from (from + 1) (omega arith) (omega arith) ∙ ap (λ (xs : List ℕ). getD s from 0 ∷ xs) (nothing (from + 1) (from + 1) s (omega arith)) in
-      let q : lentArticle s from .qualifier ≡ slice (from + articleQualifierAt) (from + partWidth) s = qualifier-whole in
-      rw (t, ← article-same, ← q, is-named)
-    where
-      qualifier-whole : lentArticle s from .qualifier ≡ slice (from + articleQualifierAt) (from + partWidth) s
-      qualifier-whole = fitted-whole 2 (slice (from + articleQualifierAt) (from + partWidth) s) qualifier-long
+      rw (t, ← article-same, ← qualifier-same, is-named)
 
   -- they are so long
   pub loop-long : length (fieldsText (lentLoop s from))

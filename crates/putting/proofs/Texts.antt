@@ -1,7 +1,7 @@
 -- Fields stored one after the other, and where they end.
 use mathlib.Core.Path.{_≡_, _∙_, ap, sym, refl}
 use mathlib.Core.List.{List, [], _∷_, _++_, append-nil, append-assoc}
-use Prim.Native.Nat.{ℕ, suc, _+_}
+use Prim.Native.Nat.{ℕ, suc, _+_, _≤_}
 use native.Mathlib.Numerals.{add-one}
 use native.Mathlib.Omega.{arith}
 use lib.ListN.{length, set, length-append}
@@ -59,6 +59,27 @@ one l at f p q r =
 
 -- fields stored where others end are stored with them
 pub both : (l : List ℕ) (at : ℕ) (fs gs : List Optional) {d e : List ℕ} {m n : ℕ} → Put l at fs d m → Put d m gs e n → Put l at (fs ++ gs) e n
-both l at fs gs p q =
-    (rw (fields-append fs gs) (sets-then l at (length (fieldsText fs)) (fieldsText fs) (fieldsText gs) (p .0) refl (p .1) (q .0)),
-    omega (arith, p .1, q .1, fields-length fs gs))
+both l at fs gs p q = (
+  rw (fields-append fs gs) (sets-then l at (length (fieldsText fs)) (fieldsText fs) (fieldsText gs) (p .0) refl (p .1) (q .0)),
+  omega (arith, p .1, q .1, fields-length fs gs),
+)
+
+-- a content stored behind the head of its field
+pub behind : (l : List ℕ) (at w : ℕ) (f : Optional) {i : ℕ} {h d x : List ℕ} → i ≡ f .id → x ≡ f .content → length x ≡ w
+    → h ≡ sets l at (fieldText (record { id = i; content = [] })) → d ≡ sets h (at + headWidth) x → Put l at (f ∷ []) d (at + headWidth + w)
+behind l at w f {i} {h} {d} {x} p q e a b =
+    one l at f {i = i} {x = x} {d = d} p q (b ∙ rw a (field-stored l at i x), rw e)
+
+-- where a field ends, and where fields end
+pub field-end : (at w : ℕ) {r b : ℕ} {x y : List ℕ} → r ≡ b + headWidth + length x → b ≡ at → x ≡ y → length y ≡ w → r ≡ at + (headWidth + w)
+field-end at w p q e l = p ∙ rw (q, e, l) (omega arith)
+
+pub fields-end : (at n : ℕ) {r b : ℕ} → r ≡ b + n → b ≡ at → r ≡ at + n
+fields-end at n p q = p ∙ rw q
+
+-- there is room where others end for a field, and for fields
+pub field-fits : (at w m : ℕ) {r k : ℕ} {x y : List ℕ} → r ≡ at → x ≡ y → length y ≡ w → k ≡ m → at + (headWidth + w) ≤ m → r + headWidth + length x ≤ k
+field-fits at w m p q l e h = rw (p, q, l, e) (omega (arith, h))
+
+pub fields-fit : (at n m : ℕ) {r k : ℕ} → r ≡ at → k ≡ m → at + n ≤ m → r + n ≤ k
+fields-fit at n m p e h = rw (p, e) h

@@ -24,7 +24,7 @@ same-length : tie.Need-same-length
 same-length c = search needs
 
 returns : tie.Need-returns
-returns c = 
+returns c =
     let paste = c .before .before in
     let head = paste .before .before .before .before in
     (rw (paste .paste-at .ensures, head .put-head .ensures) (field-stored _ _ _ _), refl)

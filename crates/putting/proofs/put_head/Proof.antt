@@ -17,7 +17,7 @@ same-length : tie.Need-same-length
 same-length c = search needs
 
 returns : tie.Need-returns
-returns c = 
+returns c =
     let digits = c .before .before in
     let star = digits .before .before .before .before in
     rw (digits .put-digits .ensures, star .put-byte .ensures) (head-stored _ _ _)

@@ -1,5 +1,4 @@
 -- `putting::put_medium` meets its contract: each medium by its name.
-use mathlib.Core.Path.{refl}
 use Rattle.parts.specs.Loops.{loop}
 use Rattle.putting.proofs.Kept.{first-medium, second-medium}
 use borrow.Author.Needs.{needs}
@@ -23,7 +22,7 @@ unfolding loop
 returns c =
     let put = c .before .before in
     let start = put .before .before .before .before .before .before in
-    (rw (put .put-field .ensures .0, put .before .before .member-id .ensures, first-medium (start .args .medium) (c .x)), put .put-field .ensures .1)
+    (rw (put .put-field .ensures .0, put .before .before .member-id .ensures, first-medium (start .args .medium) (put .before .before .before .before .if1 .taken)), put .put-field .ensures .1)
 
 member-id-requires-2 : tie.Need-member-id-requires-2
 member-id-requires-2 c κs = search needs
@@ -42,7 +41,7 @@ unfolding loop
 returns-2 c =
     let put = c .before .before in
     let start = put .before .before .before .before .before .before in
-    (rw (put .put-field2 .ensures .0, put .before .before .member-id2 .ensures, second-medium (start .args .medium) (start .pre .0) (c .x)), put .put-field2 .ensures .1)
+    (rw (put .put-field2 .ensures .0, put .before .before .member-id2 .ensures, second-medium (start .args .medium) (start .pre .0) (put .before .before .before .before .if1 .left)), put .put-field2 .ensures .1)
 
 pub put-medium-spec : {M : Type 1} → statement M
 put-medium-spec =
