@@ -1,1 +1,5 @@
 pub mod Texts
+pub mod Kept
+pub mod Lent
+pub mod First
+pub mod Asked

@@ -1,27 +1,20 @@
 -- The contents that a part's values become, and how long they are.
 use mathlib.Core.Path.{_≡_, refl}
 use mathlib.Core.Bool.{Bool, true, false}
-use mathlib.Core.List.{List}
-use Prim.Native.Nat.{ℕ, _≤_, _<_}
+use Prim.Native.Nat.{_≤_, _<_}
 use native.Mathlib.Omega.{arith}
 use borrow.Author.Tests.{le-leb, lt-leb, leb-true}
 use lib.Dec.{leb}
-use lib.ListN.{length, take, replicate, length-take}
-use lib.Seq.{sets, take-all}
+use lib.ListN.{length, take, length-take}
 use Rattle.cells.proofs.Bools.{split}
 use Rattle.writing.specs.Digits.{unwritable, numberBytes}
 use Rattle.writing.proofs.Decimals.{number-length, unwritable-length}
-use Rattle.parts.specs.Part.{mostDigits, articleWidth, fitted}
+use Rattle.parts.specs.Part.{mostDigits, articleWidth}
 use Rattle.parts.specs.Fields.{amountText, articleText, mediumText}
 use Rattle.parts.specs.declared.part.Medium.{Medium}
 use Rattle.parts.specs.declared.part.Medium.the-variants.{Physical, Digital}
 use Rattle.parts.specs.declared.part.PartPrice.{PartPrice}
 use Rattle.parts.specs.declared.part.PartArticle.{PartArticle}
-use Rattle.parts.proofs.Fits.{fills}
-
--- bytes that there is room for, stored over zeros, have zeros behind them
-pub fills-whole : (room : ℕ) (s : List ℕ) → length s ≤ room → sets (replicate room 0) 0 s ≡ fitted room s
-fills-whole room s h = rw (take-all room s h) at (fills room s)
 
 -- an amount has its digits, or is unwritable where they are too many
 module _ (p : PartPrice) where

@@ -1,5 +1,6 @@
 pub mod Junction
 pub mod Stored
+pub mod Faulted
 pub mod Judging
 pub mod Rest
-pub mod Laid
+pub mod Short

@@ -2,13 +2,13 @@
 use mathlib.Core.Path.{_≡_, refl, _∙_, ap, sym}
 use mathlib.Core.Bool.{true}
 use mathlib.Core.List.{List, [], _∷_, _++_, append-assoc, append-nil}
-use Prim.Native.Nat.{ℕ, suc, _+_, _-_, _≤_, _<_}
-use native.Mathlib.Nat.{add-suc, zero-add, add-zero}
+use Prim.Native.Nat.{ℕ, suc, _+_, _≤_, _<_}
+use native.Mathlib.Nat.{zero-add}
 use native.Mathlib.Omega.{arith}
 use borrow.Author.Tests.{ltb-true, ltb-false}
 use lib.Dec.{ltb}
-use lib.ListN.{length, take, drop, set, length-append, take-append-drop}
-use lib.Seq.{sets, set-set, set-comm, take-set-le, drop-set-add, drop-drop, drop-length}
+use lib.ListN.{length, set, length-append}
+use lib.Seq.{sets, set-set, set-comm}
 use Rattle.cells.specs.Bytes.{bytes}
 use Rattle.cells.proofs.Bools.{split}
 use Rattle.cells.proofs.Stores.{sets-append}
@@ -16,24 +16,8 @@ use Rattle.record.specs.Fields.{headWidth, Optional}
 use Rattle.writing.specs.Widths.{widthAfter, capped, allInside}
 use Rattle.writing.specs.Write.{optionalOf, fieldText, optionalText, recordText}
 use Rattle.writing.specs.declared.entries.Entry.{Entry}
-use Rattle.writing.proofs.Records.{width-least}
 use Rattle.writing.proofs.Widths.{record-wide, capped-above, capped-below}
-
--- after entries come others: these are reckoned from where the record of the first would end, without its last field
-pub width-joined : (n : ℕ) (es fs : List Entry) → widthAfter n (es ++ fs) ≡ widthAfter (widthAfter n es - headWidth) fs
-unfolding widthAfter
-width-joined n [] fs = let e : n + headWidth - headWidth ≡ n = omega arith in rw e
-width-joined n (e ∷ es) fs = width-joined (n + headWidth + e .width) es fs
-
--- so they make it no shorter
-pub width-more : (n : ℕ) (es fs : List Entry) → widthAfter n es ≤ widthAfter n (es ++ fs)
-width-more n es fs = rw (width-joined n es fs) (omega (arith, width-least n es, width-least (widthAfter n es - headWidth) fs))
-
--- and are as long after n bytes as after none
-pub width-further : (n : ℕ) (es : List Entry) → widthAfter n es ≡ n + widthAfter 0 es
-unfolding widthAfter
-width-further n [] = omega arith
-width-further n (e ∷ es) = omega (arith, width-further (n + headWidth + e .width) es, width-further (0 + headWidth + e .width) es)
+use Rattle.lent_parts.specs.Faults.{fieldsText}
 
 -- a record without its last field
 unfoldable pub front : List ℕ → List Optional → List ℕ
@@ -58,28 +42,6 @@ front-wide fixed contents es h =
     sym (ap length (text-last fixed (optionalOf contents es)) ∙ length-append (front fixed (optionalOf contents es)) (bytes "*9999"))
     ∙ record-wide fixed contents es h
 
--- a record of the fields of two tables is as long as reckoned of the entries of both
-pub joined-wide : (fixed contents texts : List ℕ) (es fs : List Entry) → allInside contents es ≡ true → allInside texts fs ≡ true
-    → length (recordText fixed (optionalOf contents es ++ optionalOf texts fs)) ≡ widthAfter (length fixed) (es ++ fs)
-joined-wide fixed contents texts es fs h g =
-    let w = front-wide fixed contents es h in
-    let n : length (front fixed (optionalOf contents es)) ≡ widthAfter (length fixed) es - headWidth = omega arith in
-    ap length (text-joined fixed (optionalOf contents es) (optionalOf texts fs))
-    ∙ record-wide (front fixed (optionalOf contents es)) texts fs g
-    ∙ rw (n, width-joined (length fixed) es fs)
-
--- a run stored in what is left from a place on is stored that much further on
-sets-part : (l : List ℕ) (n i : ℕ) (vs : List ℕ) → take n l ++ sets (drop n l) i vs ≡ sets l (n + i) vs
-sets-part l n i [] = take-append-drop n l
-sets-part l n i (v ∷ vs) =
-    rw (← take-set-le n l (n + i) v (omega arith), ← drop-set-add n l i v, ← add-suc n i) (sets-part (set l (n + i) v) n (suc i) vs)
-
--- what is put back behind a place is all that stands there
-pub put-last : (l : List ℕ) (n : ℕ) (vs : List ℕ) → n ≤ length l → take n l ++ (vs ++ drop (length l - n) (drop n l)) ≡ take n l ++ vs
-put-last l n vs h =
-    let e : n + (length l - n) ≡ length l = omega arith in
-    rw (drop-drop (length l - n) n l, e, drop-length l, append-nil vs)
-
 -- a store before a run may as well come first
 set-before : (l : List ℕ) (i : ℕ) (xs : List ℕ) (j v : ℕ) → j < i → set (sets l i xs) j v ≡ sets (set l j v) i xs
 set-before l i [] j v h = refl
@@ -94,25 +56,36 @@ sets-over l i (x ∷ xs) [] h = absurd (omega arith)
 sets-over l i (x ∷ xs) (y ∷ ys) h =
     rw (set-before (set l i x) (suc i) xs i y (omega arith), set-set l i x y) (sets-over (set l i y) (suc i) xs ys (omega arith))
 
--- fields are at least as long as the last one
-text-least : (fs : List Optional) → 5 ≤ length (optionalText fs)
-unfolding optionalText
-text-least [] = omega arith
-text-least (f ∷ fs) = omega (arith, length-append (fieldText f) (optionalText fs), text-least fs)
+-- fields as they are written, and then the last one
+text-ends : (fs : List Optional) → optionalText fs ≡ fieldsText fs ++ bytes "*9999"
+unfolding optionalText fieldsText
+text-ends [] = refl
+text-ends (f ∷ fs) = rw (text-ends fs) (sym (append-assoc (fieldText f) (fieldsText fs) (bytes "*9999")))
 
--- the second fields, stored where the last field of a record stands, make it the record of all fields
-pub joined-stored : (out fixed : List ℕ) (xs ys : List Optional) (at : ℕ) → at ≡ length (front fixed xs)
-    → take at (sets out 0 (recordText fixed xs)) ++ sets (drop at (sets out 0 (recordText fixed xs))) 0 (recordText [] ys)
-    ≡ sets out 0 (recordText fixed (xs ++ ys))
+-- a record with more fields is longer by these
+pub joined-wide : (fixed contents : List ℕ) (es : List Entry) (ys : List Optional) → allInside contents es ≡ true
+    → length (recordText fixed (optionalOf contents es ++ ys)) ≡ widthAfter (length fixed) es + length (fieldsText ys)
 unfolding recordText
-joined-stored out fixed xs ys at e =
+joined-wide fixed contents es ys h =
+    let f = front fixed (optionalOf contents es) in
+    let w = front-wide fixed contents es h in
+    let a = length-append f (optionalText ys) in
+    let b : length (optionalText ys) ≡ length (fieldsText ys) + 5 = ap length (text-ends ys) ∙ length-append (fieldsText ys) (bytes "*9999") in
+    ap length (text-joined fixed (optionalOf contents es) ys) ∙ omega arith
+
+-- more fields, stored where the last field of a record stands, and then the last one, make it the record of all fields
+pub joined-stored : (out fixed : List ℕ) (xs ys : List Optional) (at end : ℕ) → at ≡ length (front fixed xs) → end ≡ at + length (fieldsText ys)
+    → sets (sets (sets out 0 (recordText fixed xs)) at (fieldsText ys)) end (bytes "*9999") ≡ sets out 0 (recordText fixed (xs ++ ys))
+unfolding recordText
+joined-stored out fixed xs ys at end e g =
     let f = front fixed xs in
+    let l = length-append (fieldsText ys) (bytes "*9999") in
     let a : sets out 0 (recordText fixed xs) ≡ sets (sets out 0 f) at (bytes "*9999") =
     ap (sets out 0) (text-last fixed xs) ∙ sets-append out 0 f (bytes "*9999") ∙ rw (zero-add, e) in
-    let b : sets out 0 (recordText fixed (xs ++ ys)) ≡ sets (sets out 0 f) at (optionalText ys) =
-    ap (sets out 0) (text-joined fixed xs ys) ∙ sets-append out 0 f (optionalText ys) ∙ rw (zero-add, e) in
-    sets-part (sets out 0 (recordText fixed xs)) at 0 (optionalText ys)
-    ∙ rw (add-zero at, a, b) (sets-over (sets out 0 f) at (bytes "*9999") (optionalText ys) (text-least ys))
+    let b : sets out 0 (recordText fixed (xs ++ ys)) ≡ sets (sets out 0 f) at (fieldsText ys ++ bytes "*9999") =
+    ap (sets out 0) (text-joined fixed xs ys) ∙ sets-append out 0 f (optionalText ys) ∙ rw (zero-add, e, text-ends ys) in
+    rw (g, ← sets-append (sets out 0 (recordText fixed xs)) at (fieldsText ys) (bytes "*9999"), a, b)
+    (sets-over (sets out 0 f) at (bytes "*9999") (fieldsText ys ++ bytes "*9999") (omega arith))
 
 -- a length that is capped, where it is above the most, and where it is not
 pub capped-over : (most n : ℕ) → most < capped most n → most < n

@@ -1,14 +1,16 @@
 -- `packing::whole::judge_whole` meets its contract: too long already with the table's fields, or by the length with the parts' fields too.
 use mathlib.Core.Path.{_≡_, _∙_}
-use mathlib.Core.List.{_++_}
+use Prim.Native.Nat.{_+_}
 use native.Mathlib.Omega.{arith}
 use borrow.Author.Tests.{lt-ltb}
+use lib.ListN.{length}
 use Rattle.record.specs.Layout.{mostBytes}
 use Rattle.writing.specs.Widths.{widthAfter}
 use Rattle.writing.specs.Write.{entries, lengthJudged}
-use Rattle.writing.proofs.Records.{width-least}
-use Rattle.writing.proofs.Widths.{capped-judged}
-use Rattle.packing.proofs.Stored.{width-joined, width-more, capped-over, capped-within}
+use Rattle.parts.specs.Fields.{lentFields}
+use Rattle.lent_parts.specs.Faults.{fieldsText}
+use Rattle.packing.proofs.Stored.{capped-over, capped-within}
+use Rattle.packing.proofs.Short.{lent-short}
 use borrow.Author.Needs.{needs}
 use Rattle.packing.proofs.whole.judge_whole.Statement.{statement}
 use Rattle.packing.proofs.whole.judge_whole.Tie as tie
@@ -29,29 +31,25 @@ returns : tie.Need-returns
 unfolding lengthJudged
 returns c =
     let a = c .before .before .before .before .before .args in
-    let es = entries (a .fields) (a .table .now) in
-    let fs = entries (a .more) (a .listed .now) in
-    let o = capped-over mostBytes (widthAfter (a .width) es) (omega (arith, c .before .record-width .ensures)) in
-    rw (lt-ltb mostBytes (widthAfter (a .width) (es ++ fs)) (omega (arith, width-more (a .width) es fs)))
+    let w = widthAfter (a .width) (entries (a .fields) (a .table .now)) in
+    let o = capped-over mostBytes w (omega (arith, c .before .record-width .ensures)) in
+    rw (lt-ltb mostBytes (w + length (fieldsText (lentFields (a .n) (a .room .now) 0))) (omega arith))
 
-sub-record-width : tie.Need-sub-record-width
-sub-record-width c =
-    let a = c .before .before .before .before .before .args in
-    omega (arith, body c, width-least (a .width) (entries (a .fields) (a .table .now)))
+loops-width-requires : tie.Need-loops-width-requires
+loops-width-requires c κs = search needs
 
-record-width-requires-2 : tie.Need-record-width-requires-2
-record-width-requires-2 c κs = search needs
+add-judge-length : tie.Need-add-judge-length
+add-judge-length c =
+    let s = c .before .before .before .before .before .before in
+    omega (arith, c .loops-width .ensures, lent-short (s .args .n) (s .args .room .now), s .pre .3, c .before .if1 .left)
 
 judge-length-requires : tie.Need-judge-length-requires
 judge-length-requires c κs = search needs
 
 returns-2 : tie.Need-returns-2
 returns-2 c =
-    let d = c .before .before in
-    let a = d .before .before .before .before .before .args in
-    let es = entries (a .fields) (a .table .now) in
-    let fs = entries (a .more) (a .listed .now) in
-    rw (width-joined (a .width) es fs, ← body d, ← capped-judged _ (a .out .now), ← c .before .record-width2 .ensures) (c .judge-length .ensures)
+    let l = c .before in
+    rw (← body (l .before), ← l .loops-width .ensures) (c .judge-length .ensures)
 
 pub judge-whole-spec : {M : Type 1} → statement M
 judge-whole-spec =
@@ -59,7 +57,7 @@ judge-whole-spec =
     (tie.spec
     record-width-requires
     returns
-    sub-record-width
-    record-width-requires-2
+    loops-width-requires
+    add-judge-length
     judge-length-requires
     returns-2)

@@ -13,12 +13,12 @@ use Rattle.packing.proofs.whole.judge_with.Tie as tie
 
 -- what is said of the fixed part, and of its kind
 said : (c : tie.After-judge-fixed) (v : Verdict) → c .judge-fixed .result ≡ v
-    → let fixed = c .before .before .before .before .before .before .before .args .fixed .now in
+    → let fixed = c .before .before .before .before .before .before .args .fixed .now in
     fixedJudged (kindOf fixed) fixed ≡ v
 said c v e = sym (c .judge-fixed .ensures) ∙ e
 
 named : (c : tie.After-kind-of) (k : Kinded) → c .kind-of .result ≡ k
-    → kindOf (c .before .before .before .before .before .before .before .before .before .before .args .fixed .now) ≡ k
+    → kindOf (c .before .before .before .before .before .before .before .before .before .args .fixed .now) ≡ k
 named c k e = sym (c .kind-of .ensures) ∙ e
 
 judge-fixed-requires : tie.Need-judge-fixed-requires
@@ -43,8 +43,8 @@ judge-rest-requires : tie.Need-judge-rest-requires
 judge-rest-requires c κs =
     let t = c .before .before .before .before in
     let d = t .before .before in
-    let p = d .before .before .before .before .before .before .before .pre in
-    (fixed-most _ _ (said d _ (t .enum-told .given .1)), p .0, p .1, p .2, p .3)
+    let p = d .before .before .before .before .before .before .pre in
+    (fixed-most _ _ (said d _ (t .enum-told .given .1)), p .0, p .1, p .2)
 
 returns : tie.Need-returns
 unfolding judgedWith
