@@ -25,7 +25,7 @@ front fixed [] = fixed
 front fixed (f ∷ fs) = front (fixed ++ fieldText f) fs
 
 -- a record with more fields is that, with more fields
-pub text-joined : (fixed : List ℕ) (xs ys : List Optional) → recordText fixed (xs ++ ys) ≡ recordText (front fixed xs) ys
+text-joined : (fixed : List ℕ) (xs ys : List Optional) → recordText fixed (xs ++ ys) ≡ recordText (front fixed xs) ys
 unfolding front recordText optionalText
 text-joined fixed [] ys = refl
 text-joined fixed (f ∷ xs) ys = sym (append-assoc fixed (fieldText f) (optionalText (xs ++ ys))) ∙ text-joined (fixed ++ fieldText f) xs ys
