@@ -1,5 +1,6 @@
 -- `putting::put_loop` meets its contract: its ten fields are put one after the other.
 use mathlib.Core.Path.{_≡_, refl, ap, _∙_}
+use mathlib.Core.List.{List}
 use Prim.Native.Nat.{ℕ, _+_}
 use native.Mathlib.Omega.{arith}
 use lib.ListN.{length, getD}
@@ -14,12 +15,28 @@ use borrow.Author.Needs.{needs}
 use Rattle.putting.proofs.put_loop.Statement.{statement}
 use Rattle.putting.proofs.put_loop.Tie as tie
 
--- where the tax mark ends, and that the output stays as long
+-- where each field of a lent part ends
+abbrev afterTax : ℕ → ℕ
+afterTax at = at + (headWidth + 1)
+
+abbrev afterNet : List ℕ → ℕ → ℕ → ℕ
+afterNet s from at = afterTax at + length (fieldsText (priceLoop (lentPrice s (from + netAt))))
+
+abbrev afterList : List ℕ → ℕ → ℕ → ℕ
+afterList s from at = afterNet s from at + length (fieldsText (priceLoop (lentPrice s (from + listAt))))
+
+abbrev afterArticle : List ℕ → ℕ → ℕ → ℕ
+afterArticle s from at = afterList s from at + (headWidth + getD s (from + lengthAt) 0)
+
+abbrev afterQualifier : List ℕ → ℕ → ℕ → ℕ
+afterQualifier s from at = afterArticle s from at + (headWidth + 2)
+
+-- the tax mark ends there, and the output stays as long
 tax-end : (c : tie.After-put-field)
     → let start = c .before .before .before .before .before .before .before in
     let a = start .args in
     let s = a .s .now in
-    (c .put-field .result ≡ a .at + (headWidth + 1)) × (length (c .put-field .last .0) ≡ length (a .out .now))
+    (c .put-field .result ≡ afterTax (a .at)) × (length (c .put-field .last .0) ≡ length (a .out .now))
 tax-end c =
     let start = c .before .before .before .before .before .before .before in
     let a = start .args in
@@ -31,49 +48,49 @@ net-end : (c : tie.After-put-price)
     → let start = c .before .before .before .before .before .before .before .before .before .before .before in
     let a = start .args in
     let s = a .s .now in
-    (c .put-price .result ≡ a .at + (headWidth + 1) + length (fieldsText (priceLoop (lentPrice s (a .from + netAt))))) × (length (c .put-price .last .0) ≡ length (a .out .now))
+    (c .put-price .result ≡ afterNet s (a .from) (a .at)) × (length (c .put-price .last .0) ≡ length (a .out .now))
 net-end c =
     let start = c .before .before .before .before .before .before .before .before .before .before .before in
     let a = start .args in
     let s = a .s .now in
     let e = tax-end (c .before .before .before .before) in
-    (fields-end (a .at + (headWidth + 1)) _ (c .put-price .ensures .1) (e .0), c .put-price .kept .0 ∙ e .1)
+    (fields-end (afterTax (a .at)) _ (c .put-price .ensures .1) (e .0), c .put-price .kept .0 ∙ e .1)
 
 list-end : (c : tie.After-put-price2)
     → let start = c .before .before .before .before .before .before .before .before .before .before .before .before .before .before .before in
     let a = start .args in
     let s = a .s .now in
-    (c .put-price2 .result ≡ a .at + (headWidth + 1) + length (fieldsText (priceLoop (lentPrice s (a .from + netAt)))) + length (fieldsText (priceLoop (lentPrice s (a .from + listAt))))) × (length (c .put-price2 .last .0) ≡ length (a .out .now))
+    (c .put-price2 .result ≡ afterList s (a .from) (a .at)) × (length (c .put-price2 .last .0) ≡ length (a .out .now))
 list-end c =
     let start = c .before .before .before .before .before .before .before .before .before .before .before .before .before .before .before in
     let a = start .args in
     let s = a .s .now in
     let e = net-end (c .before .before .before .before) in
-    (fields-end (a .at + (headWidth + 1) + length (fieldsText (priceLoop (lentPrice s (a .from + netAt))))) _ (c .put-price2 .ensures .1) (e .0), c .put-price2 .kept .0 ∙ e .1)
+    (fields-end (afterNet s (a .from) (a .at)) _ (c .put-price2 .ensures .1) (e .0), c .put-price2 .kept .0 ∙ e .1)
 
 article-end : (c : tie.After-put-field2)
     → let start = c .before .before .before .before .before .before .before .before .before .before .before .before .before .before .before .before .before .before .before .before .before in
     let a = start .args in
     let s = a .s .now in
-    (c .put-field2 .result ≡ a .at + (headWidth + 1) + length (fieldsText (priceLoop (lentPrice s (a .from + netAt)))) + length (fieldsText (priceLoop (lentPrice s (a .from + listAt)))) + (headWidth + getD s (a .from + lengthAt) 0)) × (length (c .put-field2 .last .0) ≡ length (a .out .now))
+    (c .put-field2 .result ≡ afterArticle s (a .from) (a .at)) × (length (c .put-field2 .last .0) ≡ length (a .out .now))
 article-end c =
     let start = c .before .before .before .before .before .before .before .before .before .before .before .before .before .before .before .before .before .before .before .before .before in
     let a = start .args in
     let s = a .s .now in
     let e = list-end (c .before .before .before .before .before .before) in
-    (field-end (a .at + (headWidth + 1) + length (fieldsText (priceLoop (lentPrice s (a .from + netAt)))) + length (fieldsText (priceLoop (lentPrice s (a .from + listAt))))) (getD s (a .from + lengthAt) 0) (c .put-field2 .ensures .1) (e .0) (c .before .part2 .ensures) (article-long s (a .from) (start .pre .0) (start .pre .1)), c .put-field2 .kept .0 ∙ e .1)
+    (field-end (afterList s (a .from) (a .at)) (getD s (a .from + lengthAt) 0) (c .put-field2 .ensures .1) (e .0) (c .before .part2 .ensures) (article-long s (a .from) (start .pre .0) (start .pre .1)), c .put-field2 .kept .0 ∙ e .1)
 
 qualifier-end : (c : tie.After-put-field3)
     → let start = c .before .before .before .before .before .before .before .before .before .before .before .before .before .before .before .before .before .before .before .before .before .before .before .before .before .before .before in
     let a = start .args in
     let s = a .s .now in
-    (c .put-field3 .result ≡ a .at + (headWidth + 1) + length (fieldsText (priceLoop (lentPrice s (a .from + netAt)))) + length (fieldsText (priceLoop (lentPrice s (a .from + listAt)))) + (headWidth + getD s (a .from + lengthAt) 0) + (headWidth + 2)) × (length (c .put-field3 .last .0) ≡ length (a .out .now))
+    (c .put-field3 .result ≡ afterQualifier s (a .from) (a .at)) × (length (c .put-field3 .last .0) ≡ length (a .out .now))
 qualifier-end c =
     let start = c .before .before .before .before .before .before .before .before .before .before .before .before .before .before .before .before .before .before .before .before .before .before .before .before .before .before .before in
     let a = start .args in
     let s = a .s .now in
     let e = article-end (c .before .before .before .before .before .before) in
-    (field-end (a .at + (headWidth + 1) + length (fieldsText (priceLoop (lentPrice s (a .from + netAt)))) + length (fieldsText (priceLoop (lentPrice s (a .from + listAt)))) + (headWidth + getD s (a .from + lengthAt) 0)) 2 (c .put-field3 .ensures .1) (e .0) (c .before .part3 .ensures) (qualifier-long s (a .from) (start .pre .0) (start .pre .1)), c .put-field3 .kept .0 ∙ e .1)
+    (field-end (afterArticle s (a .from) (a .at)) 2 (c .put-field3 .ensures .1) (e .0) (c .before .part3 .ensures) (qualifier-long s (a .from) (start .pre .0) (start .pre .1)), c .put-field3 .kept .0 ∙ e .1)
 
 add-width : tie.Need-add-width
 add-width c = search needs
@@ -112,7 +129,7 @@ put-price-requires c κs =
     let a = start .args in
     let s = a .s .now in
     let e = tax-end (c .before .before .before) in
-    (omega (arith, start .pre .0), net-kept s (a .from) (start .pre .0) (start .pre .1), fields-fit (a .at + (headWidth + 1)) _ _ (e .0) (e .1) (omega (arith, start .pre .2, loop-long s (a .from) (start .pre .0) (start .pre .1))))
+    (omega (arith, start .pre .0), net-kept s (a .from) (start .pre .0) (start .pre .1), fields-fit (afterTax (a .at)) _ _ (e .0) (e .1) (omega (arith, start .pre .2, loop-long s (a .from) (start .pre .0) (start .pre .1))))
 
 add-put-price-2 : tie.Need-add-put-price-2
 add-put-price-2 c = search needs
@@ -123,7 +140,7 @@ put-price-requires-2 c κs =
     let a = start .args in
     let s = a .s .now in
     let e = net-end (c .before .before .before) in
-    (omega (arith, start .pre .0), list-kept s (a .from) (start .pre .0) (start .pre .1), fields-fit (a .at + (headWidth + 1) + length (fieldsText (priceLoop (lentPrice s (a .from + netAt))))) _ _ (e .0) (e .1) (omega (arith, start .pre .2, loop-long s (a .from) (start .pre .0) (start .pre .1))))
+    (omega (arith, start .pre .0), list-kept s (a .from) (start .pre .0) (start .pre .1), fields-fit (afterNet s (a .from) (a .at)) _ _ (e .0) (e .1) (omega (arith, start .pre .2, loop-long s (a .from) (start .pre .0) (start .pre .1))))
 
 member-id-requires-2 : tie.Need-member-id-requires-2
 member-id-requires-2 c κs = search needs
@@ -144,7 +161,7 @@ put-field-requires-2 c κs =
     let a = start .args in
     let s = a .s .now in
     let e = list-end (c .before .before .before .before .before) in
-    field-fits (a .at + (headWidth + 1) + length (fieldsText (priceLoop (lentPrice s (a .from + netAt)))) + length (fieldsText (priceLoop (lentPrice s (a .from + listAt))))) _ _ (e .0) (c .part2 .ensures) (article-long s (a .from) (start .pre .0) (start .pre .1)) (e .1) (omega (arith, start .pre .2, loop-long s (a .from) (start .pre .0) (start .pre .1)))
+    field-fits (afterList s (a .from) (a .at)) _ _ (e .0) (c .part2 .ensures) (article-long s (a .from) (start .pre .0) (start .pre .1)) (e .1) (omega (arith, start .pre .2, loop-long s (a .from) (start .pre .0) (start .pre .1)))
 
 member-id-requires-3 : tie.Need-member-id-requires-3
 member-id-requires-3 c κs = search needs
@@ -168,7 +185,7 @@ put-field-requires-3 c κs =
     let a = start .args in
     let s = a .s .now in
     let e = article-end (c .before .before .before .before .before) in
-    field-fits (a .at + (headWidth + 1) + length (fieldsText (priceLoop (lentPrice s (a .from + netAt)))) + length (fieldsText (priceLoop (lentPrice s (a .from + listAt)))) + (headWidth + getD s (a .from + lengthAt) 0)) _ _ (e .0) (c .part3 .ensures) (qualifier-long s (a .from) (start .pre .0) (start .pre .1)) (e .1) (omega (arith, start .pre .2, loop-long s (a .from) (start .pre .0) (start .pre .1)))
+    field-fits (afterArticle s (a .from) (a .at)) _ _ (e .0) (c .part3 .ensures) (qualifier-long s (a .from) (start .pre .0) (start .pre .1)) (e .1) (omega (arith, start .pre .2, loop-long s (a .from) (start .pre .0) (start .pre .1)))
 
 add-put-medium : tie.Need-add-put-medium
 add-put-medium c =
@@ -186,7 +203,7 @@ put-medium-requires c κs =
     let a = start .args in
     let s = a .s .now in
     let e = qualifier-end (c .before .before .before .before) in
-    (is-named s (a .from) (start .pre .0) (start .pre .1), fields-fit (a .at + (headWidth + 1) + length (fieldsText (priceLoop (lentPrice s (a .from + netAt)))) + length (fieldsText (priceLoop (lentPrice s (a .from + listAt)))) + (headWidth + getD s (a .from + lengthAt) 0) + (headWidth + 2) + headWidth) 3 _ (ap (λ (n : ℕ). n + headWidth) (e .0)) (e .1) (omega (arith, start .pre .2, loop-long s (a .from) (start .pre .0) (start .pre .1))))
+    (is-named s (a .from) (start .pre .0) (start .pre .1), fields-fit (afterQualifier s (a .from) (a .at) + headWidth) 3 _ (ap (λ (n : ℕ). n + headWidth) (e .0)) (e .1) (omega (arith, start .pre .2, loop-long s (a .from) (start .pre .0) (start .pre .1))))
 
 same-length : tie.Need-same-length
 same-length c = search needs
