@@ -108,16 +108,20 @@ fn show_written(
     }
 }
 
+fn show_entries(room: &[u8; FULL_ROOM], n: usize) {
+    let mut i: usize = 0;
+    while i < n {
+        show_entry(room, i);
+        i += 1;
+    }
+}
+
 // The parts of a record with so many fields in a table that a check filled; nothing of a record that has none.
 pub fn show_parts(s: &[u8], table: &[usize; FULL_TABLE], fields: usize) {
     let mut room = [0u8; FULL_ROOM];
     let read = read_parts(s, &mut room);
     let n = read.parts;
-    let mut i: usize = 0;
-    while i < n {
-        show_entry(&room, i);
-        i += 1;
-    }
+    show_entries(&room, n);
     if 0 < n {
         show_written(s, table, fields, &room, n);
     }
