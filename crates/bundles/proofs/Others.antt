@@ -13,23 +13,14 @@ use Rattle.cells.proofs.Bools.{split, and-left, and-right}
 use Rattle.record.specs.Fields.{Optional}
 use Rattle.rules.specs.Rule.{keeps}
 use Rattle.rules.specs.declared.rule.Rule.the-variants.{Free}
-use Rattle.writing.specs.Write.{optionalIn, optionalOf}
-use Rattle.writing.specs.declared.entries.Entry.{Entry}
 use Rattle.parts.specs.Loops.{partId, loop, loopFields, mostParts, isMember, isLoop, areLoops, othersIn, loopCount, wholeLoops}
-use Rattle.parts.specs.Entries.{othersAmong}
 use Rattle.parts.specs.Read.{loopsJudged}
 use Rattle.parts.specs.declared.answer.Refusal.{Refusal}
 use Rattle.parts.specs.declared.answer.Refusal.the-variants.{Broken, TooMany}
 use Rattle.parts.specs.declared.answer.Verdict.{Verdict}
 use Rattle.parts.specs.declared.answer.Verdict.the-variants.{Refused, Fits}
 
--- a table's entries have the IDs of their fields
-pub others-named : (contents : List ℕ) (es : List Entry) → othersIn (optionalOf contents es) ≡ othersAmong es
-unfolding optionalOf optionalIn othersIn othersAmong
-others-named contents [] = refl
-others-named contents (e ∷ es) = rw (others-named contents es)
-
--- there are no more of them than fields
+-- no more fields stand before the loops than there are
 pub others-most : (fs : List Optional) → othersIn fs ≤ length fs
 unfolding othersIn
 others-most [] = omega arith

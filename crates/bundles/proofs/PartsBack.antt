@@ -6,7 +6,7 @@ use Prim.Native.Nat.{ℕ, zero, suc, _+_, _-_, _*_, _^_, _≤_, _<_}
 use native.Mathlib.Nat.{pow-le-pow-right}
 use native.Mathlib.Omega.{arith}
 use lib.Dec.{lit<}
-use lib.ListN.{length, take, drop, getD, replicate, length-append, length-take, length-drop, take-append-drop}
+use lib.ListN.{length, take, drop, getD, replicate, length-take, length-drop, take-append-drop}
 use lib.Seq.{take-all, take-at, drop-at, drop-drop, getD-drop, length-take-le}
 use Rattle.cells.proofs.Bools.{and-left, and-right}
 use Rattle.rules.specs.Number.{number}
@@ -17,9 +17,10 @@ use Rattle.record.specs.Contents.{contents, isIn, ruleIn, contentRule}
 use Rattle.record.specs.Fields.{Optional}
 use Rattle.parts.specs.Loops.{loop, loopFields, isLoop, areLoops}
 use Rattle.parts.specs.Part.{mostDigits, amountWidth, articleWidth, qualifierWidth, currencyWidth, fitted, textOf, priceFrom, articleFrom, partOf, partsOf, partWidth, partBytes, roomOf, mediumAt, isMedium, lentPart, lentParts}
-use Rattle.parts.specs.Fields.{partTexts, withIds, partFields, lentLoop, lentFields}
+use Rattle.parts.specs.Fields.{partFields, lentLoop, lentFields}
 use Rattle.parts.specs.declared.part.Part.{Part}
 use Rattle.parts.proofs.Fits.{fitted-length}
+use Rattle.parts.proofs.Lent.{loop-length}
 use Rattle.bundles.proofs.Kept.{AllSound, sound-take, sound-drop, rule-at}
 use Rattle.bundles.proofs.Contents.{of-most, of-digits, digits-small}
 use Rattle.bundles.proofs.LoopBack.{loop-back}
@@ -99,24 +100,14 @@ loops-back (suc n) fs s at rest l e k d =
     let others = loops-back n (drop loopFields fs) s (at + partWidth) rest (length-drop loopFields fs ∙ omega (arith, l)) (and-right (isLoop loop ten) _ e) (sound-drop loopFields fs k) after in
     ap₂ (λ (x y : List Optional). x ++ y) first others ∙ take-append-drop loopFields fs
 
--- a lent part has ten fields, and n of them have ten times as many
-loop-long : (s : List ℕ) (at : ℕ) → length (lentLoop s at) ≡ loopFields
-unfolding lentLoop partFields partTexts withIds loop
-loop-long s at = refl
-
-pub lent-long : (n : ℕ) (s : List ℕ) (at : ℕ) → length (lentFields n s at) ≡ n * loopFields
-unfolding lentFields
-lent-long zero s at = refl
-lent-long (suc n) s at = length-append (lentLoop s at) (lentFields n s (at + partWidth)) ∙ rw (loop-long s at, lent-long n s (at + partWidth)) (omega arith)
-
 -- the parts that stand in a room are those that their fields say, where these are kept
 pub lent-back : (n : ℕ) (s : List ℕ) (at : ℕ) → at + n * partWidth ≤ length s → AllSound (lentFields n s at) → partsOf n (lentFields n s at) ≡ lentParts n s at
 unfolding partsOf lentFields lentParts lentLoop
 lent-back zero s at h k = refl
 lent-back (suc n) s at h k =
     let ys = lentFields n s (at + partWidth) in
-    let t = take-at (lentLoop s at) ys loopFields (loop-long s at) in
-    let d = drop-at (lentLoop s at) ys loopFields (loop-long s at) in
+    let t = take-at (lentLoop s at) ys loopFields (loop-length s at) in
+    let d = drop-at (lentLoop s at) ys loopFields (loop-length s at) in
     let first = part-back (isMedium (getD s (at + mediumAt) 0)) (lentPart s at) (lent-shaped s at (omega arith)) (rw t at (sound-take loopFields (lentLoop s at ++ ys) k)) in
     let others = lent-back n s (at + partWidth) (omega arith) (rw d at (sound-drop loopFields (lentLoop s at ++ ys) k)) in
     rw (t, d) (ap₂ (λ (x : Part) (xs : List Part). x ∷ xs) first others)

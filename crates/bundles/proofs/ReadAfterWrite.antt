@@ -40,11 +40,13 @@ use Rattle.parts.specs.Read.{partsJudged, Outcome as Read, roomAfter, partsRead
 use Rattle.parts.specs.Write.{entriesThere, hasLoop, isMisplaced}
 use Rattle.parts.specs.declared.answer.Verdict.the-variants.{Fits}
 use Rattle.parts.specs.declared.part.Part.{Part}
+use Rattle.parts.proofs.Members.{others-named}
+use Rattle.parts.proofs.Lent.{lent-long}
 use Rattle.bundles.specs.Demand2.{partsCall, writePartsCall, LargeRoom, Bundled, PartsBack, CanWriteParts, PartsReadBack, PartsWrittenBack, PartsDemand2}
 use Rattle.bundles.proofs.Kept.{AllSound, record-sound, sound-drop}
 use Rattle.bundles.proofs.LentBack.{AllStored, parts-stored, room-length}
-use Rattle.bundles.proofs.PartsBack.{all-stored, parts-length, loops-back, lent-long, lent-back}
-use Rattle.bundles.proofs.Others.{others-named, others-most, others-front, others-append, loops-first, not-zero, Loops}
+use Rattle.bundles.proofs.PartsBack.{all-stored, parts-length, loops-back, lent-back}
+use Rattle.bundles.proofs.Others.{others-most, others-front, others-append, loops-first, not-zero, Loops}
 use Rattle.bundles.proofs.ReadDone.{read-fits, Done, done, count-is, judged-bundle, judged-none, none-judged, bundle-judged, parts-read-exactly}
 use Rattle.bundles.proofs.Fronts.{bundle-front}
 use Rattle.bundles.proofs.WriteDone.{done-can, can-done, parts-write-exactly}

@@ -3,26 +3,23 @@ use mathlib.Core.Path.{_≡_, _∙_, refl, ap}
 use mathlib.Core.Bool.{_&&_}
 use mathlib.Core.List.{List, [], _∷_, _++_}
 use Prim.Native.Nat.{ℕ, suc, _+_, _-_, _*_, _≤_, _<_}
-use native.Mathlib.Nat.{zero-add}
 use native.Mathlib.Omega.{arith}
-use lib.ListN.{length, getD, length-append}
+use lib.ListN.{length, getD}
 use lib.Seq.{slice, take-at, drop-at}
 use Rattle.cells.specs.Bytes.{among}
 use Rattle.cells.proofs.Bools.{and-true}
 use Rattle.rules.specs.Rule.{texts, keeps}
 use Rattle.rules.specs.declared.rule.Texts.the-variants.{NetPrice, ListPrice}
 use Rattle.record.specs.Fields.{Optional}
-use Rattle.writing.specs.Digits.{digitsOf}
-use Rattle.writing.specs.Write.{fieldText}
-use Rattle.writing.proofs.Decimals.{digits-length}
 use Rattle.parts.specs.Loops.{loop, loopFields, isMember, isLoop, areLoops}
 use Rattle.parts.specs.Part.{partWidth, mediumAt, netAt, listAt, priceQualifierAt, currencyAt, mediumIn, isMedium, lentPrice, lentArticle, lentPart}
 use Rattle.parts.specs.Fields.{amountText, articleText, partTexts, withIds, partFields, lentLoop, lentFields}
 use Rattle.parts.proofs.Fits.{fitted-length}
 use Rattle.lent_parts.specs.Faults.{fieldsText}
-use Rattle.faults.proofs.Texts.{medium-length}
-use Rattle.faults.proofs.Lent.{qualifier-is, loop-is, fields-next, fields-end}
-use Rattle.faults.proofs.First.{loop-length}
+use Rattle.parts.proofs.Texts.{medium-length}
+use Rattle.parts.proofs.Lent.{qualifier-is, loop-length, fields-next, fields-end}
+use Rattle.lent_parts.proofs.Widths.{widths, text-width, widths-append}
+use Rattle.faults.proofs.Loop.{loop-is}
 
 -- a loop asks for the qualifiers of both prices
 pub loop-asks : (s : List ℕ) (at : ℕ) → at + partWidth ≤ length s
@@ -43,27 +40,6 @@ loops-next s n j h =
     let others = lentFields (n - (j + 1)) s ((j + 1) * partWidth) in
     ap (areLoops (n - j)) (fields-next s n j h)
     ∙ rw (e, take-at (lentLoop s (j * partWidth)) others loopFields l, drop-at (lentLoop s (j * partWidth)) others loopFields l)
-
--- a field has five bytes before its content
-abbrev widths : List Optional → ℕ
-widths [] = 0
-widths (f ∷ fs) = 5 + length (f .content) + widths fs
-
--- so the text of fields is as long as this
-text-width : (fs : List Optional) → length (fieldsText fs) ≡ widths fs
-unfolding fieldsText fieldText
-text-width [] = refl
-text-width (f ∷ fs) =
-    let a = length-append (42 ∷ digitsOf 4 (f .id) ++ f .content) (fieldsText fs) in
-    let b = length-append (digitsOf 4 (f .id)) (f .content) in
-    let d = digits-length 4 (f .id) in
-    let i = text-width fs in
-    omega arith
-
--- fields and others are as long as both
-widths-append : (xs ys : List Optional) → widths (xs ++ ys) ≡ widths xs + widths ys
-widths-append [] ys = rw zero-add
-widths-append (x ∷ xs) ys = let i = widths-append xs ys in omega arith
 
 -- a price's qualifier has two bytes, its currency three
 price-widths : (s : List ℕ) (at : ℕ) → (length (lentPrice s at .qualifier) ≡ 2) × (length (lentPrice s at .currency) ≡ 3)

@@ -8,11 +8,12 @@ use native.Mathlib.Omega.{arith}
 use lib.ListN.{length, getD}
 use Rattle.cells.proofs.Bools.{split}
 use Rattle.record.specs.Fields.{Optional}
-use Rattle.parts.specs.Loops.{loop, loopFields}
-use Rattle.parts.specs.Part.{partWidth, netAt, listAt, lentPrice, lentPart}
-use Rattle.parts.specs.Fields.{partTexts, withIds, partFields, lentLoop, lentFields}
+use Rattle.parts.specs.Loops.{loopFields}
+use Rattle.parts.specs.Part.{partWidth, netAt, listAt, lentPrice}
+use Rattle.parts.specs.Fields.{lentLoop, lentFields}
+use Rattle.parts.proofs.Lent.{loop-length, fields-next, fields-end}
 use Rattle.lent_parts.specs.Faults.{isKept, firstFault, priceLoop}
-use Rattle.faults.proofs.Lent.{articleLoop, loop-is, fields-next, fields-end}
+use Rattle.faults.proofs.Loop.{articleLoop, loop-is}
 
 -- of a field and others
 module _ (f : Optional) (fs : List Optional) where
@@ -93,11 +94,6 @@ module _ (s : List ℕ) (at : ℕ) where
           let e = list-price in
           let p = fault-past (priceLoop (lentPrice s (at + listAt))) (articleLoop s at) l in
           omega arith
-
--- a loop has ten fields
-pub loop-length : (s : List ℕ) (at : ℕ) → length (lentLoop s at) ≡ loopFields
-unfolding lentLoop lentPart partFields partTexts withIds loop
-loop-length s at = refl
 
 -- in the parts that are left it is in the next
 module _ (s : List ℕ) (n j : ℕ) (h : j < n) where

@@ -27,7 +27,7 @@ use Rattle.parts.specs.declared.part.Medium.the-variants.{Physical, Digital}
 use Rattle.parts.specs.declared.part.PartPrice.{PartPrice}
 use Rattle.parts.specs.declared.part.PartArticle.{PartArticle}
 use Rattle.lent_parts.specs.Faults.{isKept}
-use Rattle.faults.proofs.Texts.{amount-written, amount-broken, article-written, article-broken}
+use Rattle.parts.proofs.Texts.{amount-written, amount-broken, article-written, article-broken}
 
 -- a test that another one implies adds nothing to it
 implied : (a b : Bool) → (b ≡ true → a ≡ true) → a && b ≡ b

@@ -1,5 +1,4 @@
-pub mod Texts
 pub mod Kept
-pub mod Lent
+pub mod Loop
 pub mod First
 pub mod Asked

@@ -2,12 +2,12 @@
 use mathlib.Core.Path.{_≡_, refl, _∙_}
 use mathlib.Core.Bool.{Bool, true, false, not, _&&_}
 use mathlib.Core.List.{List, [], _∷_}
-use Prim.Native.Nat.{ℕ, zero, suc, _+_, _*_, _≤_}
+use Prim.Native.Nat.{ℕ, zero, suc, _+_, _≤_}
 use native.Mathlib.Nat.{add-zero}
 use native.Mathlib.Omega.{arith}
 use borrow.Author.Tests.{ltb-true, ltb-false, lt-ltb, le-ltb, not-true}
 use lib.Dec.{ltb}
-use lib.ListN.{length, length-append}
+use lib.ListN.{length}
 use Rattle.cells.specs.Bytes.{pick}
 use Rattle.cells.proofs.Bools.{split, and-left, and-right}
 use Rattle.rules.specs.Rule.{keeps}
@@ -21,11 +21,10 @@ use Rattle.writing.specs.declared.answer.Refusal.the-variants.{Content}
 use Rattle.writing.specs.declared.answer.Verdict.{Verdict}
 use Rattle.writing.specs.declared.answer.Verdict.the-variants.{Refused, Fits}
 use Rattle.writing.specs.declared.entries.Entry.{Entry}
-use Rattle.parts.specs.Loops.{loop, loopFields}
+use Rattle.parts.specs.Loops.{loop}
 use Rattle.parts.specs.Part.{partWidth}
 use Rattle.parts.specs.Fields.{partTexts, withIds, partFields, lentLoop, lentFields}
 use Rattle.lent_parts.specs.Faults.{isKept, firstFault}
-use Rattle.faults.proofs.First.{loop-length}
 
 -- the ID that follows a field: of the next one, or of the last
 unfoldable pub nextOf : List Optional → ℕ
@@ -43,12 +42,6 @@ pub lent-ordered : (n : ℕ) (s : List ℕ) (at before : ℕ) → ordered before
 unfolding ordered nextOf lentFields lentLoop partFields partTexts withIds loop isIn guardedIds groupKept isWanted nextMember previousMember firstOf nextIn previousIn groupWith groups
 lent-ordered zero s at before = refl
 lent-ordered (suc n) s at before = lent-ordered n s (at + partWidth) 1151
-
--- n lent parts have ten times as many fields
-pub lent-long : (n : ℕ) (s : List ℕ) (at : ℕ) → length (lentFields n s at) ≡ n * loopFields
-unfolding lentFields
-lent-long zero s at = refl
-lent-long (suc n) s at = length-append (lentLoop s at) (lentFields n s (at + partWidth)) ∙ rw (loop-length s at, lent-long n s (at + partWidth)) (omega arith)
 
 -- what is said of fields by their first fault, where the first of them has index i
 unfoldable pub faulted : ℕ → List Optional → Verdict

@@ -17,8 +17,9 @@ use Rattle.parts.specs.Fields.{lentFields}
 use Rattle.parts.specs.Write.{contentsOf, tableWith, contentsWith}
 use Rattle.parts.proofs.Joined.{movedEntry, listedEntries, all-entries}
 use Rattle.parts.proofs.Alike.{alike-judged, moved-alike, listed-names}
+use Rattle.parts.proofs.Lent.{lent-long}
 use Rattle.packing.proofs.Junction.{loops-begin, judged-joined}
-use Rattle.packing.proofs.Faulted.{ordered, lent-ordered, lent-long, faulted, judged-faulted}
+use Rattle.packing.proofs.Faulted.{ordered, lent-ordered, faulted, judged-faulted}
 
 module _ (k : Kind) (table contents : List ℕ) (count : ℕ) (room : List ℕ) (n : ℕ) where
   -- the fields of n lent parts, and the contents of all fields

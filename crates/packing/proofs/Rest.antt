@@ -28,8 +28,9 @@ use Rattle.lent_parts.specs.Faults.{firstFault, fieldsText}
 use Rattle.packing.specs.Judged.{restWith, judgedWith}
 use Rattle.parts.proofs.Joined.{table-short, table-long, table-whole}
 use Rattle.parts.proofs.Together.{named-together, inside-together}
+use Rattle.parts.proofs.Lent.{lent-long}
 use Rattle.packing.proofs.Stored.{joined-wide}
-use Rattle.packing.proofs.Faulted.{lent-long, faulted, fits-faultless}
+use Rattle.packing.proofs.Faulted.{faulted, fits-faultless}
 use Rattle.packing.proofs.Judging.{judged-together}
 
 -- 8 over all fields, 23, then 9 and 10 of the table's fields and of the parts'

@@ -6,8 +6,8 @@ use native.Mathlib.Omega.{arith}
 use lib.ListN.{length}
 use Rattle.parts.specs.Part.{netAt, listAt, partWidth, lentPrice, lentArticle}
 use Rattle.parts.specs.Fields.{lentFields}
+use Rattle.parts.proofs.Texts.{amount-fits, article-fits}
 use Rattle.lent_parts.specs.Faults.{fieldsText}
-use Rattle.faults.proofs.Texts.{amount-fits, article-fits}
 use Rattle.faults.proofs.Asked.{width-next, width-end}
 
 -- the m parts from one on, which are all that are left of n

@@ -1,4 +1,6 @@
 pub mod Fits
+pub mod Texts
+pub mod Lent
 pub mod Members
 pub mod Series
 pub mod Joined

@@ -18,7 +18,7 @@ use Rattle.writing.specs.Write.{entryOf, entries, contentIn, optionalIn, option
 use Rattle.writing.specs.Widths.{allInside}
 use Rattle.writing.specs.declared.entries.Entry.{Entry}
 use Rattle.writing.proofs.Tables.{entry-from, entry-here, entries-end}
-use Rattle.parts.specs.Loops.{Member, loop, loopFields, partId, noMember, isMember, isLoop}
+use Rattle.parts.specs.Loops.{Member, loop, loopFields, partId, noMember, isMember, isLoop, othersIn}
 use Rattle.parts.specs.Entries.{othersAmong}
 
 abbrev pub indexes : List ℕ
@@ -89,6 +89,12 @@ module _ (contents table : List ℕ) (i : ℕ) (h : i < loopFields) (e : Entry) 
 pub loop-end : (fs : List Optional) (i : ℕ) → i ≡ loopFields → isLoop (drop i loop) fs ≡ true
 unfolding isLoop loop
 loop-end fs i e = rw e
+
+-- as many fields stand before the loops as entries do
+pub others-named : (contents : List ℕ) (es : List Entry) → othersIn (optionalOf contents es) ≡ othersAmong es
+unfolding optionalOf optionalIn othersIn othersAmong
+others-named contents [] = refl
+others-named contents (e ∷ es) = rw (others-named contents es)
 
 -- how many entries stand before a loop, at the entry with an index
 module _ (count i : ℕ) (table : List ℕ) (h : i < count) where

@@ -66,7 +66,7 @@ module _ (id : ℕ) (p : PartPrice) (e : isKept id (amountText p) ≡ true) wher
   unfolding amountText
   amount-kept = rw few (number-kept id (p .digits) (p .amount .0) (rw few at e))
 
--- an article that can be written is no longer than the most, and has so many bytes
+-- an article that can be written is no longer than the most
 module _ (id : ℕ) (a : PartArticle) (e : isKept id (articleText a) ≡ true) where
   short : leb (a .length) articleWidth ≡ true
   unfolding articleText
@@ -75,21 +75,11 @@ module _ (id : ℕ) (a : PartArticle) (e : isKept id (articleText a) ≡ true) w
   pub article-most : a .length ≤ articleWidth
   article-most = leb-true (a .length) articleWidth short
 
-  pub article-kept : articleText a ≡ take (a .length) (a .bytes)
-  unfolding articleText
-  article-kept = rw short
-
 -- a medium that can be written is named
 pub medium-kept : (id : ℕ) (named : Bool) (m : Medium) → isKept id (mediumText named m) ≡ true → named ≡ true
 unfolding mediumText
 medium-kept id true m e = refl
 medium-kept id false m e = absurd (broken id 2 e)
-
--- and has three bytes
-pub medium-long : (m : Medium) → length (mediumText true m) ≡ 3
-unfolding mediumText
-medium-long Physical = refl
-medium-long Digital = refl
 
 -- a byte that is the first medium's names it, any other of a medium names the second
 pub first-medium : (b : ℕ) → b ≡ 1 → bytes "PHY" ≡ mediumText true (mediumIn b)

@@ -2,23 +2,24 @@
 use mathlib.Core.Path.{_≡_, _∙_, ap, sym, refl}
 use mathlib.Core.Bool.{true}
 use mathlib.Core.List.{List, [], _∷_, _++_}
-use Prim.Native.Nat.{ℕ, zero, suc, _+_, _-_, _*_, _≤_, _<_}
+use Prim.Native.Nat.{ℕ, suc, _+_, _-_, _*_, _≤_, _<_}
 use native.Mathlib.Omega.{arith}
-use lib.ListN.{length, getD, replicate, length-append}
-use lib.Seq.{slice, sets, length-slice, take-all, take-at}
+use lib.ListN.{length, getD}
+use lib.Seq.{slice, sets, length-slice}
 use Rattle.cells.specs.Little.{leAt}
-use Rattle.cells.proofs.Parts.{next, nothing}
 use Rattle.cells.proofs.Stores.{sets-append}
 use Rattle.record.specs.Fields.{Optional}
 use Rattle.writing.specs.Digits.{digitsOf}
 use Rattle.writing.proofs.Decimals.{digits-length}
 use Rattle.parts.specs.Loops.{loop, loopFields}
-use Rattle.parts.specs.Part.{amountWidth, priceWidth, partWidth, mostDigits, articleWidth, fitted, mediumAt, netAt, listAt, lengthAt, articleAt, articleQualifierAt, digitsAt, priceQualifierAt, currencyAt, mediumIn, isMedium, lentPrice, lentArticle, lentPart}
+use Rattle.parts.specs.Part.{amountWidth, priceWidth, partWidth, mostDigits, articleWidth, mediumAt, netAt, listAt, lengthAt, articleAt, articleQualifierAt, digitsAt, priceQualifierAt, currencyAt, mediumIn, isMedium, lentPrice, lentArticle, lentPart}
 use Rattle.parts.specs.Fields.{amountText, articleText, mediumText, partTexts, withIds, partFields, lentLoop, lentFields}
-use Rattle.parts.proofs.Fits.{fitted-whole}
+use Rattle.parts.proofs.Texts.{medium-length}
+use Rattle.parts.proofs.Lent.{qualifier-is, currency-is, tax-is, article-is, article-qualifier-is, loop-length, lent-long, fields-next, fields-end}
 use Rattle.lent_parts.specs.Faults.{isKept, firstFault, priceLoop, fieldsText}
-use Rattle.putting.proofs.Texts.{fields-append, fields-length, first-length, Put, both}
-use Rattle.putting.proofs.Kept.{AllKept, all-kept, faults-parted, amount-most, amount-kept, article-most, article-kept, medium-kept, medium-long}
+use Rattle.lent_parts.proofs.Widths.{text-width, fields-append, fields-length}
+use Rattle.putting.proofs.Texts.{Put, both}
+use Rattle.putting.proofs.Kept.{AllKept, all-kept, faults-parted, amount-most, amount-kept, article-most, medium-kept}
 
 -- bytes of a list that ends behind them are so many
 part-long : (s : List ℕ) (from to w : ℕ) → to ≡ from + w → to ≤ length s → length (slice from to s) ≡ w
@@ -35,12 +36,10 @@ module _ (s : List ℕ) (from : ℕ) (h : from + priceWidth ≤ length s) where
 
   -- each is what stands there
   pub qualifier-put : slice (from + priceQualifierAt) (from + currencyAt) s ≡ lentPrice s from .qualifier
-  unfolding lentPrice
-  qualifier-put = sym (fitted-whole 2 (slice (from + priceQualifierAt) (from + currencyAt) s) two-long)
+  qualifier-put = sym (qualifier-is s from h)
 
   pub currency-put : slice (from + currencyAt) (from + priceWidth) s ≡ lentPrice s from .currency
-  unfolding lentPrice
-  currency-put = sym (fitted-whole 3 (slice (from + currencyAt) (from + priceWidth) s) three-long)
+  currency-put = sym (currency-is s from h)
 
   -- an amount that can be written is put as its digits
   module _ (k : isKept 1029 (amountText (lentPrice s from)) ≡ true) where
@@ -54,16 +53,12 @@ module _ (s : List ℕ) (from : ℕ) (h : from + priceWidth ≤ length s) where
 
     -- and the three fields are so long
     pub price-long : length (fieldsText (priceLoop (lentPrice s from))) ≡ 20 + getD s (from + digitsAt) 0
-    unfolding fieldsText
     price-long =
         let p = lentPrice s from in
-        let a = first-length (record { id = 1029; content = amountText p }) (record { id = 1030; content = p .qualifier } ∷ record { id = 1032; content = p .currency } ∷ []) in
-        let b = first-length (record { id = 1030; content = p .qualifier }) (record { id = 1032; content = p .currency } ∷ []) in
-        let c = first-length (record { id = 1032; content = p .currency }) [] in
         let d : length (amountText p) ≡ getD s (from + digitsAt) 0 = rw (← amount-put) (digits-length (getD s (from + digitsAt) 0) (leAt s from amountWidth)) in
         let q : length (p .qualifier) ≡ 2 = rw (← qualifier-put) two-long in
         let u : length (p .currency) ≡ 3 = rw (← currency-put) three-long in
-        omega (arith, a, b, c, d, q, u)
+        omega (arith, text-width (priceLoop p), d, q, u)
 
 -- the fields of a lent part that are not of a price, as they are put
 abbrev pub taxField : List ℕ → ℕ → Optional
@@ -116,42 +111,23 @@ module _ (s : List ℕ) (from : ℕ) (h : from + partWidth ≤ length s) (k : fi
   pub qualifier-long : length (slice (from + articleQualifierAt) (from + partWidth) s) ≡ 2
   qualifier-long = part-long s (from + articleQualifierAt) (from + partWidth) 2 (omega arith) h
 
-  article-same : articleText (lentArticle s from) ≡ slice (from + articleAt) (from + articleAt + getD s (from + lengthAt) 0) s
-  unfolding lentArticle fitted
-  article-same =
-      let w = getD s (from + lengthAt) 0 in
-      let x = slice (from + articleAt) (from + articleAt + w) s in
-      article-kept 1101 (lentArticle s from) article-may
-      ∙ rw (take-all articleWidth x (omega (arith, article-long, width-most))) (take-at x (replicate (articleWidth - length x) 0) w article-long)
-
-  qualifier-same : lentArticle s from .qualifier ≡ slice (from + articleQualifierAt) (from + partWidth) s
-  unfolding lentArticle
-  qualifier-same = fitted-whole 2 (slice (from + articleQualifierAt) (from + partWidth) s) qualifier-long
-
   -- the fields in the order in which they are put
   as-put : lentLoop s from
       ≡ (taxField s from ∷ []) ++ (priceLoop (lentPrice s (from + netAt)) ++ (priceLoop (lentPrice s (from + listAt)) ++ ((articleField s from ∷ []) ++ ((qualifierField s from ∷ []) ++ (mediumField s from ∷ [])))))
   unfolding lentLoop partFields partTexts withIds loop lentPart
   as-put =
-      let t : slice from (from + 1) s ≡ getD s from 0 ∷ [] = next s from (from + 1) (omega arith) (omega arith) ∙ ap (λ (xs : List ℕ). getD s from 0 ∷ xs) (nothing (from + 1) (from + 1) s (omega arith)) in
-      rw (t, ← article-same, ← qualifier-same, is-named)
+      rw (tax-is s from h, article-is s from h width-most, article-qualifier-is s from h, is-named)
 
   -- they are so long
   pub loop-long : length (fieldsText (lentLoop s from))
       ≡ 26 + getD s (from + lengthAt) 0 + length (fieldsText (priceLoop (lentPrice s (from + netAt)))) + length (fieldsText (priceLoop (lentPrice s (from + listAt))))
-  unfolding fieldsText
   loop-long =
       let net = priceLoop (lentPrice s (from + netAt)) in
       let list = priceLoop (lentPrice s (from + listAt)) in
       let last = articleField s from ∷ qualifierField s from ∷ mediumField s from ∷ [] in
-      let a = first-length (taxField s from) (net ++ (list ++ last)) in
-      let b = fields-length net (list ++ last) in
-      let c = fields-length list last in
-      let d = first-length (articleField s from) (qualifierField s from ∷ mediumField s from ∷ []) in
-      let e = first-length (qualifierField s from) (mediumField s from ∷ []) in
-      let f = first-length (mediumField s from) [] in
       ap (λ (fs : List Optional). length (fieldsText fs)) as-put
-      ∙ omega (arith, a, b, c, d, e, f, tax-long, article-long, qualifier-long, medium-long (mediumIn (getD s (from + mediumAt) 0)))
+      ∙ text-width ((taxField s from ∷ []) ++ (net ++ (list ++ last)))
+      ∙ omega (arith, text-width net, text-width list, tax-long, article-long, qualifier-long, medium-length true (mediumIn (getD s (from + mediumAt) 0)))
 
   -- one after the other they are the loop
   pub loop-put : (l : List ℕ) (at : ℕ) {d1 d2 d3 d4 d5 d6 : List ℕ} {n1 n2 n3 n4 n5 n6 : ℕ}
@@ -171,45 +147,29 @@ module _ (s : List ℕ) (from : ℕ) (h : from + partWidth ≤ length s) (k : fi
       (both d3 n3 (articleField s from ∷ []) (qualifierField s from ∷ mediumField s from ∷ []) article
       (both d4 n4 (qualifierField s from ∷ []) (mediumField s from ∷ []) qualifier medium)))))
 
--- so many loops are so many fields
-loops-count : (n : ℕ) (s : List ℕ) (at : ℕ) → length (lentFields n s at) ≡ n * loopFields
-unfolding lentFields lentLoop partFields partTexts withIds loop
-loops-count zero s at = refl
-loops-count (suc n) s at =
-    length-append (lentLoop s at) (lentFields n s (at + partWidth)) ∙ omega (arith, loops-count n s (at + partWidth))
-
 -- the loop with an index, and those after it
 module _ (s : List ℕ) (n j : ℕ) (h : j < n) where
-  fields-here : lentFields (n - j) s (j * partWidth) ≡ lentLoop s (j * partWidth) ++ lentFields (n - (j + 1)) s ((j + 1) * partWidth)
-  unfolding lentFields
-  fields-here =
-      let e : n - j ≡ suc (n - (j + 1)) = omega arith in
-      let f : j * partWidth + partWidth ≡ (j + 1) * partWidth = omega arith in
-      ap (λ (m : ℕ). lentFields m s (j * partWidth)) e ∙ rw f
-
   -- where no field is faulty, none of either is
   pub kept-here : firstFault (lentFields (n - j) s (j * partWidth)) ≡ (n - j) * loopFields
       → (firstFault (lentLoop s (j * partWidth)) ≡ loopFields) × (firstFault (lentFields (n - (j + 1)) s ((j + 1) * partWidth)) ≡ (n - (j + 1)) * loopFields)
-  unfolding lentLoop partFields partTexts withIds loop
   kept-here e =
-      let c = loops-count (n - (j + 1)) s ((j + 1) * partWidth) in
-      let r = faults-parted (lentLoop s (j * partWidth)) (lentFields (n - (j + 1)) s ((j + 1) * partWidth)) (rw fields-here at e ∙ omega (arith, c)) in
-      (r .0, r .1 ∙ c)
+      let l = loop-length s (j * partWidth) in
+      let c = lent-long (n - (j + 1)) s ((j + 1) * partWidth) in
+      let r = faults-parted (lentLoop s (j * partWidth)) (lentFields (n - (j + 1)) s ((j + 1) * partWidth)) (rw (fields-next s n j h) at e ∙ omega (arith, l, c)) in
+      (r .0 ∙ l, r .1 ∙ c)
 
   pub long-here : length (fieldsText (lentFields (n - j) s (j * partWidth)))
       ≡ length (fieldsText (lentLoop s (j * partWidth))) + length (fieldsText (lentFields (n - (j + 1)) s ((j + 1) * partWidth)))
-  long-here = rw fields-here (fields-length (lentLoop s (j * partWidth)) (lentFields (n - (j + 1)) s ((j + 1) * partWidth)))
+  long-here = rw (fields-next s n j h) (fields-length (lentLoop s (j * partWidth)) (lentFields (n - (j + 1)) s ((j + 1) * partWidth)))
 
   -- the loop put leaves the others to put
   pub text-next : (l : List ℕ) (at : ℕ) {d : List ℕ} {m : ℕ} → Put l at (lentLoop s (j * partWidth)) d m
       → sets l at (fieldsText (lentFields (n - j) s (j * partWidth))) ≡ sets d m (fieldsText (lentFields (n - (j + 1)) s ((j + 1) * partWidth)))
   text-next l at {d} {m} p =
-      rw (fields-here, p .0, p .1, fields-append (lentLoop s (j * partWidth)) (lentFields (n - (j + 1)) s ((j + 1) * partWidth)))
+      rw (fields-next s n j h, p .0, p .1, fields-append (lentLoop s (j * partWidth)) (lentFields (n - (j + 1)) s ((j + 1) * partWidth)))
       (sets-append l at (fieldsText (lentLoop s (j * partWidth))) (fieldsText (lentFields (n - (j + 1)) s ((j + 1) * partWidth))))
 
 -- with no loop left nothing is put
 pub text-end : (s : List ℕ) (n j at : ℕ) → n ≤ j → fieldsText (lentFields (n - j) s at) ≡ []
-unfolding fieldsText lentFields
-text-end s n j at h =
-    let e : n - j ≡ 0 = omega arith in
-    rw e
+unfolding fieldsText
+text-end s n j at h = rw (fields-end s n j at h)

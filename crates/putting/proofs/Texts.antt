@@ -12,6 +12,7 @@ use Rattle.writing.specs.Digits.{digitsOf}
 use Rattle.writing.specs.Write.{fieldText}
 use Rattle.writing.proofs.Decimals.{digits-length}
 use Rattle.lent_parts.specs.Faults.{fieldsText}
+use Rattle.lent_parts.proofs.Widths.{text-width, fields-append, fields-length}
 
 -- a star and four digits are a field without a content
 pub head-stored : (l : List ℕ) (at id : ℕ) → sets (set l at 42) (at + 1) (digitsOf 4 id) ≡ sets l at (fieldText (record { id = id; content = [] }))
@@ -26,26 +27,6 @@ field-stored l at id c =
     let k : suc at + 4 ≡ at + headWidth = omega arith in
     rw (append-nil (digitsOf 4 id)) (sym (sets-append (set l at 42) (suc at) (digitsOf 4 id) c ∙ rw (digits-length, k)))
 
--- how long a field is
-pub field-length : (f : Optional) → length (fieldText f) ≡ headWidth + length (f .content)
-unfolding fieldText
-field-length f = ap suc (length-append (digitsOf 4 (f .id)) (f .content)) ∙ rw digits-length (omega arith)
-
--- the text of fields and others is their texts, one behind the other
-pub fields-append : (fs gs : List Optional) → fieldsText (fs ++ gs) ≡ fieldsText fs ++ fieldsText gs
-unfolding fieldsText
-fields-append [] gs = refl
-fields-append (f ∷ fs) gs = rw (fields-append fs gs) (sym (append-assoc (fieldText f) (fieldsText fs) (fieldsText gs)))
-
--- and so long
-pub fields-length : (fs gs : List Optional) → length (fieldsText (fs ++ gs)) ≡ length (fieldsText fs) + length (fieldsText gs)
-fields-length fs gs = rw (fields-append fs gs) (length-append (fieldsText fs) (fieldsText gs))
-
--- one field is as long as its content and its head
-pub first-length : (f : Optional) (fs : List Optional) → length (fieldsText (f ∷ fs)) ≡ headWidth + length (f .content) + length (fieldsText fs)
-unfolding fieldsText
-first-length f fs = length-append (fieldText f) (fieldsText fs) ∙ rw (field-length f)
-
 -- what fields stored from a place on leave, and where they end
 abbrev pub Put : List ℕ → ℕ → List Optional → List ℕ → ℕ → Type 0
 Put l at fs d end = (d ≡ sets l at (fieldsText fs)) × (end ≡ at + length (fieldsText fs))
@@ -55,7 +36,7 @@ pub one : (l : List ℕ) (at : ℕ) (f : Optional) {i : ℕ} {x d : List ℕ} {e
     → (d ≡ sets l at (fieldText (record { id = i; content = x }))) × (end ≡ at + headWidth + length x) → Put l at (f ∷ []) d end
 unfolding fieldsText
 one l at f p q r =
-    (r .0 ∙ rw (p, q, append-nil (fieldText f)), omega (arith, r .1, ap length q, first-length f []))
+    (r .0 ∙ rw (p, q, append-nil (fieldText f)), omega (arith, r .1, ap length q, text-width (f ∷ [])))
 
 -- fields stored where others end are stored with them
 pub both : (l : List ℕ) (at : ℕ) (fs gs : List Optional) {d e : List ℕ} {m n : ℕ} → Put l at fs d m → Put d m gs e n → Put l at (fs ++ gs) e n

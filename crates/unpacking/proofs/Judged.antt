@@ -20,14 +20,9 @@ use Rattle.parts.specs.Loops.{partId, loopFields, mostParts, areLoops, othersIn
 use Rattle.parts.specs.Read.{loopsJudged}
 use Rattle.parts.specs.declared.answer.Refusal.the-variants.{Broken, TooMany}
 use Rattle.parts.specs.declared.answer.Verdict.the-variants.{Refused, Fits}
+use Rattle.parts.proofs.Members.{others-named}
 
--- as many fields stand before the loops as entries do
-others-same : (contents : List ℕ) (es : List Entry) → othersIn (optionalOf contents es) ≡ othersAmong es
-unfolding othersIn othersAmong optionalOf optionalIn
-others-same contents [] = refl
-others-same contents (e ∷ es) = rw (others-same contents es)
-
--- and no more than there are
+-- no more entries stand before the loops than there are
 others-few : (es : List Entry) → othersAmong es ≤ length es
 unfolding othersAmong
 others-few [] = omega arith
@@ -45,7 +40,7 @@ module _ (contents table : List ℕ) (count first : ℕ) (q : first ≡ othersAm
       → loopsOf (optionalOf contents (entries count table)) ≡ optionalOf contents (entries m (drop (first * entryWidth) table))
   unfolding loopsOf
   loops-from m e =
-      ap (λ (k : ℕ). drop k (optionalOf contents (entries count table))) (others-same contents (entries count table) ∙ sym q)
+      ap (λ (k : ℕ). drop k (optionalOf contents (entries count table))) (others-named contents (entries count table) ∙ sym q)
       ∙ ap (λ (k : ℕ). drop first (optionalOf contents (entries k table))) (sym e)
       ∙ fields-drop contents first m table
 

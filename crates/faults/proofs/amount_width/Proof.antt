@@ -5,7 +5,7 @@ use native.Mathlib.Omega.{arith}
 use lib.ListN.{length}
 use Rattle.writing.proofs.Decimals.{number-length, unwritable-length}
 use Rattle.parts.specs.Part.{lentPrice}
-use Rattle.faults.proofs.Texts.{amount-written, amount-broken}
+use Rattle.parts.proofs.Texts.{amount-written, amount-broken}
 use borrow.Author.Needs.{needs}
 use Rattle.faults.proofs.amount_width.Statement.{statement}
 use Rattle.faults.proofs.amount_width.Tie as tie

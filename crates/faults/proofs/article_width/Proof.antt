@@ -7,7 +7,7 @@ use lib.Seq.{slice, length-take-le}
 use Rattle.writing.proofs.Decimals.{unwritable-length}
 use Rattle.parts.specs.Part.{articleWidth, lentArticle}
 use Rattle.parts.proofs.Fits.{fitted-length}
-use Rattle.faults.proofs.Texts.{article-written, article-broken}
+use Rattle.parts.proofs.Texts.{article-written, article-broken}
 use borrow.Author.Needs.{needs}
 use Rattle.faults.proofs.article_width.Statement.{statement}
 use Rattle.faults.proofs.article_width.Tie as tie

@@ -14,7 +14,8 @@ use Rattle.parts.specs.Part.{lentArticle}
 use Rattle.parts.specs.Fields.{lentLoop}
 use Rattle.lent_parts.specs.Faults.{isKept, firstFault}
 use Rattle.faults.proofs.Kept.{tax-kept, article-qualifier-kept, medium-kept}
-use Rattle.faults.proofs.Lent.{tax-is, article-qualifier-is, articleLoop}
+use Rattle.parts.proofs.Lent.{tax-is, article-qualifier-is}
+use Rattle.faults.proofs.Loop.{articleLoop}
 use Rattle.faults.proofs.First.{fault-here, fault-next, no-fault, bad-tax, bad-net, bad-list, behind}
 use borrow.Author.Needs.{needs}
 use Rattle.faults.proofs.fault_at.Statement.{statement}

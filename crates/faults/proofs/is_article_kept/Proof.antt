@@ -7,7 +7,7 @@ use lib.Seq.{slice, length-slice}
 use Rattle.parts.specs.Part.{lentArticle}
 use Rattle.lent_parts.specs.Faults.{isKept}
 use Rattle.faults.proofs.Kept.{article-none, article-long, article-kept}
-use Rattle.faults.proofs.Lent.{article-is}
+use Rattle.parts.proofs.Lent.{article-is}
 use borrow.Author.Needs.{needs}
 use Rattle.faults.proofs.is_article_kept.Statement.{statement}
 use Rattle.faults.proofs.is_article_kept.Tie as tie

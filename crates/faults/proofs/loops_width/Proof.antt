@@ -7,7 +7,7 @@ use lib.ListN.{length}
 use Rattle.parts.specs.Part.{partWidth, lentPrice, lentArticle}
 use Rattle.parts.specs.Fields.{lentFields}
 use Rattle.lent_parts.specs.Faults.{fieldsText}
-use Rattle.faults.proofs.Texts.{amount-fits, article-fits}
+use Rattle.parts.proofs.Texts.{amount-fits, article-fits}
 use Rattle.faults.proofs.Asked.{width-next, width-end}
 use borrow.Author.Needs.{needs}
 use Rattle.faults.proofs.loops_width.Statement.{statement}

@@ -7,7 +7,7 @@ use Rattle.rules.specs.declared.class.Class.the-variants.{Capital}
 use Rattle.parts.specs.Part.{lentPrice}
 use Rattle.lent_parts.specs.Faults.{isKept}
 use Rattle.faults.proofs.Kept.{qualifier-kept, currency-kept}
-use Rattle.faults.proofs.Lent.{qualifier-is, currency-is}
+use Rattle.parts.proofs.Lent.{qualifier-is, currency-is}
 use Rattle.faults.proofs.First.{fault-here, fault-next, no-fault}
 use borrow.Author.Needs.{needs}
 use Rattle.faults.proofs.price_fault.Statement.{statement}

@@ -7,9 +7,9 @@ use lib.ListN.{length, getD}
 use Rattle.record.specs.Fields.{headWidth}
 use Rattle.parts.specs.Loops.{loop}
 use Rattle.parts.specs.Part.{netAt, listAt, lengthAt, lentPrice}
+use Rattle.parts.proofs.Texts.{medium-length}
 use Rattle.lent_parts.specs.Faults.{priceLoop, fieldsText}
 use Rattle.putting.proofs.Texts.{one, field-end, fields-end, field-fits, fields-fit}
-use Rattle.putting.proofs.Kept.{medium-long}
 use Rattle.putting.proofs.Loops.{taxField, articleField, qualifierField, mediumField, net-kept, list-kept, width-most, is-named, tax-long, article-long, qualifier-long, loop-long, loop-put}
 use borrow.Author.Needs.{needs}
 use Rattle.putting.proofs.put_loop.Statement.{statement}
@@ -226,7 +226,7 @@ returns c =
     (list .put-price2 .ensures)
     (one _ _ (articleField s (a .from)) (article .before .before .member-id2 .ensures) (article .before .part2 .ensures) (article .put-field2 .ensures))
     (one _ _ (qualifierField s (a .from)) (qualifier .before .before .member-id3 .ensures) (qualifier .before .part3 .ensures) (qualifier .put-field3 .ensures))
-    (one _ _ (mediumField s (a .from)) refl refl (medium .put-medium .ensures .0, rw medium-long (medium .put-medium .ensures .1)))
+    (one _ _ (mediumField s (a .from)) refl refl (medium .put-medium .ensures .0, rw medium-length (medium .put-medium .ensures .1)))
 
 pub put-loop-spec : {M : Type 1} → statement M
 put-loop-spec =

@@ -1,18 +1,16 @@
--- The values of a lent part where they stand, and its fields as those of its prices and of its article.
+-- The values of a lent part where they stand, and the fields of lent parts: how many they are, and those of the next.
 use mathlib.Core.Path.{_≡_, _∙_, refl}
 use mathlib.Core.List.{List, [], _∷_, _++_}
-use Prim.Native.Nat.{ℕ, suc, _+_, _-_, _*_, _≤_, _<_}
+use Prim.Native.Nat.{ℕ, zero, suc, _+_, _-_, _*_, _≤_, _<_}
 use native.Mathlib.Omega.{arith}
-use lib.ListN.{length, getD, replicate}
+use lib.ListN.{length, getD, replicate, length-append}
 use lib.Seq.{slice, take-all, take-at, length-slice}
 use Rattle.cells.proofs.Parts.{next, nothing}
-use Rattle.record.specs.Fields.{Optional}
-use Rattle.parts.specs.Loops.{loop}
-use Rattle.parts.specs.Part.{articleWidth, priceWidth, partWidth, mediumAt, netAt, listAt, lengthAt, articleAt, articleQualifierAt, priceQualifierAt, currencyAt, fitted, mediumIn, isMedium, lentPrice, lentArticle, lentPart}
-use Rattle.parts.specs.Fields.{articleText, mediumText, partTexts, withIds, partFields, lentLoop, lentFields}
+use Rattle.parts.specs.Loops.{loop, loopFields}
+use Rattle.parts.specs.Part.{articleWidth, priceWidth, partWidth, lengthAt, articleAt, articleQualifierAt, priceQualifierAt, currencyAt, fitted, lentPrice, lentArticle, lentPart}
+use Rattle.parts.specs.Fields.{articleText, partTexts, withIds, partFields, lentLoop, lentFields}
 use Rattle.parts.proofs.Fits.{fitted-whole}
-use Rattle.lent_parts.specs.Faults.{priceLoop}
-use Rattle.faults.proofs.Texts.{article-written}
+use Rattle.parts.proofs.Texts.{article-written}
 
 -- bytes that stand there are as many as their room
 stands : (room from to : ℕ) (s : List ℕ) → to ≤ length s → from + room ≡ to → fitted room (slice from to s) ≡ slice from to s
@@ -52,20 +50,16 @@ module _ (s : List ℕ) (at : ℕ) (h : at + partWidth ≤ length s) where
   unfolding lentArticle
   article-qualifier-is = stands 2 (at + articleQualifierAt) (at + partWidth) s (omega arith) (omega arith)
 
--- the three fields behind the prices
-abbrev pub articleLoop : List ℕ → ℕ → List Optional
-articleLoop s at =
-    record { id = 1101; content = articleText (lentArticle s at) }
-    ∷ record { id = 1102; content = lentArticle s at .qualifier }
-    ∷ record { id = 1151; content = mediumText (isMedium (getD s (at + mediumAt) 0)) (mediumIn (getD s (at + mediumAt) 0)) }
-    ∷ []
-
--- the tax mark, the prices, the article
-pub loop-is : (s : List ℕ) (at : ℕ)
-    → lentLoop s at
-    ≡ record { id = 1019; content = getD s at 0 ∷ [] } ∷ (priceLoop (lentPrice s (at + netAt)) ++ (priceLoop (lentPrice s (at + listAt)) ++ articleLoop s at))
+-- a loop has ten fields
+pub loop-length : (s : List ℕ) (at : ℕ) → length (lentLoop s at) ≡ loopFields
 unfolding lentLoop lentPart partFields partTexts withIds loop
-loop-is s at = refl
+loop-length s at = refl
+
+-- and n lent parts have ten times as many
+pub lent-long : (n : ℕ) (s : List ℕ) (at : ℕ) → length (lentFields n s at) ≡ n * loopFields
+unfolding lentFields
+lent-long zero s at = refl
+lent-long (suc n) s at = length-append (lentLoop s at) (lentFields n s (at + partWidth)) ∙ rw (loop-length s at, lent-long n s (at + partWidth)) (omega arith)
 
 -- the fields of the parts that are left: those of the next, and of the others
 pub fields-next : (s : List ℕ) (n j : ℕ) → j < n
