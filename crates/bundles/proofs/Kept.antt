@@ -69,7 +69,7 @@ id-at (m ∷ ms) (f ∷ fs) (suc i) h e =
     let r = id-at ms fs i (omega arith) (and-right (eqb (f .id) (m .id) && keeps (m .rule) [] (f .content)) _ e) in
     (omega (arith, r .0), r .1)
 
--- so its content keeps the rule of that ID, and its bytes are allowed
+-- so its content keeps the rule of that ID
 module _ (fs : List Optional) (e : isLoop loop fs ≡ true) (s : AllSound fs) (i : ℕ) (h : i < loopFields) where
   at : (i < length fs) × (getD fs i noOptional .id ≡ getD loop i noMember .id)
   unfolding loop
@@ -78,7 +78,3 @@ module _ (fs : List Optional) (e : isLoop loop fs ≡ true) (s : AllSound fs) (i
   pub rule-at : keeps (contentRule (getD loop i noMember .id)) [] (textOf i fs) ≡ true
   unfolding textOf
   rule-at = rw (← at .1) (sound-at fs i (at .0) s .rule)
-
-  pub allowed-at : all (belongs Allowed) (textOf i fs) ≡ true
-  unfolding textOf
-  allowed-at = sound-at fs i (at .0) s .allowed

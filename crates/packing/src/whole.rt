@@ -77,7 +77,7 @@ fn judge_rest(
     if table.len() < fields * ENTRY_WIDTH {
         return Verdict::Refused(Refusal::SmallTable);
     }
-    match judge_fields(k, 0, table, fields, contents) {
+    match judge_fields(k, table, fields, contents) {
         Verdict::Refused(r) => Verdict::Refused(r),
         Verdict::Fits(_) => {
             let fault = first_fault(room, n);

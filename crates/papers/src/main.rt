@@ -18,6 +18,7 @@ use shown::number;
 use shown::show_values;
 use shown::text;
 use shown_parts::show_parts;
+use unpacking::FULL_TABLE;
 use writer::write;
 use writer::write_delivery;
 use writer::write_order;
@@ -27,8 +28,6 @@ use writing::answer::Written;
 const CR: u8 = 13;
 
 const LF: u8 = 10;
-// The numbers of a table with room for every record.
-const FULL_TABLE: usize = 288;
 
 // An optional field that a table lists.
 fn show_field(s: &[u8], table: &[usize; FULL_TABLE], i: usize) {

@@ -34,7 +34,7 @@ use values::no_report;
 use values::order_of;
 use values::report_of;
 
-// 6 to 8, then 9 and 10, which nothing is asked for where there are no fields.
+// 6 to 8, then 9 and 10, where there are fields to ask them of.
 fn judge_optional(k: Kind, s: &[u8], from: usize) -> Verdict
     requires { ⌜ from ≤ length (now s) ⌝ }
     ensures { λ r. ⌜ r ≡ optionalJudged k from (drop from (now (s .entry))) ⌝ }

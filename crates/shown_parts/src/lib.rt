@@ -11,16 +11,14 @@ use parts::part::Part;
 use parts::part::PartArticle;
 use parts::part::PartPrice;
 use record::layout::DELIVERY_WIDTH;
+use record::layout::MOST_BYTES;
 use shown::number;
 use shown::text;
+use unpacking::FULL_TABLE;
 use unpacking::read_parts;
 
-// The bytes of eight parts, and the numbers of a table with room for every record.
+// The bytes of eight parts.
 const FULL_ROOM: usize = 544;
-
-const FULL_TABLE: usize = 288;
-
-const LONGEST: usize = 1024;
 
 fn show_price(name: &[u8], p: PartPrice) {
     let amount = p.amount;
@@ -87,7 +85,7 @@ fn show_written(
     if fields < n * LOOP_FIELDS {
         return;
     }
-    let mut out = [0u8; LONGEST];
+    let mut out = [0u8; MOST_BYTES];
     let w = write_parts(
         part(s, 0, DELIVERY_WIDTH),
         table,

@@ -31,7 +31,7 @@ use record::fields::ENTRY_WIDTH;
 use record::fields::LAST_ID;
 
 // The numbers of a table with room for every record.
-const FULL_TABLE: usize = 288;
+pub const FULL_TABLE: usize = 288;
 
 // 26, then 27, of the fields from the first that a loop may begin with on.
 fn judge_loops(contents: &[u8], table: &[usize], count: usize) -> Verdict

@@ -42,7 +42,7 @@ fn judge_rest(fixed: &[u8], table: &[usize], count: usize, contents: &[u8], out:
             if table.len() < count * ENTRY_WIDTH {
                 return Verdict::Refused(Refusal::SmallTable);
             }
-            match judge_fields(k, 0, table, count, contents) {
+            match judge_fields(k, table, count, contents) {
                 Verdict::Refused(r) => Verdict::Refused(r),
                 Verdict::Fits(_) => judge_length(record_width(fixed.len(), table, count), out),
             }

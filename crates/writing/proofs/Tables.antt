@@ -55,27 +55,27 @@ module _ (count i : ℕ) (table : List ℕ) (h : i < count) (e : Entry) (q : e �
   pub entry-here : entries (count - i) (drop (i * entryWidth) table) ≡ e ∷ entries (count - (i + 1)) (drop ((i + 1) * entryWidth) table)
   entry-here = rw q (entries-first count i table h)
 
-  -- judged as a field with an index: its content cannot stand, its group is broken, or the fields after it are judged
-  module _ (k : Kind) (contents : List ℕ) (before at : ℕ) where
+  -- judged as a field: its content cannot stand, its group is broken, or the fields after it are judged
+  module _ (k : Kind) (contents : List ℕ) (before : ℕ) where
     pub content-refused : entryKept k contents e ≡ false
-        → fieldsJudged k contents before at (entries (count - i) (drop (i * entryWidth) table)) ≡ Refused (Content at)
+        → fieldsJudged k contents before i (entries (count - i) (drop (i * entryWidth) table)) ≡ Refused (Content i)
     unfolding fieldsJudged
     content-refused a = rw (entry-here, a)
 
     module _ (a : entryKept k contents e ≡ true) (after : ℕ) (n : after ≡ nextId (entries (count - (i + 1)) (drop ((i + 1) * entryWidth) table))) where
       pub group-refused : groupKept before (e .id) after ≡ false
-          → fieldsJudged k contents before at (entries (count - i) (drop (i * entryWidth) table)) ≡ Refused (Group at)
+          → fieldsJudged k contents before i (entries (count - i) (drop (i * entryWidth) table)) ≡ Refused (Group i)
       unfolding fieldsJudged
       group-refused g = rw (entry-here, a, ← n, g)
 
       pub field-passed : groupKept before (e .id) after ≡ true
-          → fieldsJudged k contents before at (entries (count - i) (drop (i * entryWidth) table))
-          ≡ fieldsJudged k contents (e .id) (at + 1) (entries (count - (i + 1)) (drop ((i + 1) * entryWidth) table))
+          → fieldsJudged k contents before i (entries (count - i) (drop (i * entryWidth) table))
+          ≡ fieldsJudged k contents (e .id) (i + 1) (entries (count - (i + 1)) (drop ((i + 1) * entryWidth) table))
       unfolding fieldsJudged
       field-passed g = rw (entry-here, a, ← n, g)
 
 -- with no field left nothing is refused
-pub fields-end : (k : Kind) (contents : List ℕ) (before at count i : ℕ) (table : List ℕ) → count ≤ i
-    → fieldsJudged k contents before at (entries (count - i) table) ≡ Fits 0
+pub fields-end : (k : Kind) (contents : List ℕ) (before count i : ℕ) (table : List ℕ) → count ≤ i
+    → fieldsJudged k contents before i (entries (count - i) table) ≡ Fits 0
 unfolding fieldsJudged
-fields-end k contents before at count i table h = rw (entries-end count i table h)
+fields-end k contents before count i table h = rw (entries-end count i table h)

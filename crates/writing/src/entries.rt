@@ -111,31 +111,23 @@ fn next_id(table: &[usize], i: usize, count: usize) -> usize
     LAST_ID
 }
 
-// 9 and 10 at each field, of which the first has an index.
-pub fn judge_fields(
-    k: Kind,
-    first: usize,
-    table: &[usize],
-    count: usize,
-    contents: &[u8],
-) -> Verdict
-    requires { ⌜ (first ≤ mostFields) × (count ≤ mostFields) × (count * entryWidth ≤ length (now table)) ⌝ }
-    ensures { λ r. ⌜ r ≡ fieldsJudged k (now (contents .entry)) noMember first (entries count (now (table .entry))) ⌝ }
+// 9 and 10 at each field.
+pub fn judge_fields(k: Kind, table: &[usize], count: usize, contents: &[u8]) -> Verdict
+    requires { ⌜ (count ≤ mostFields) × (count * entryWidth ≤ length (now table)) ⌝ }
+    ensures { λ r. ⌜ r ≡ fieldsJudged k (now (contents .entry)) noMember 0 (entries count (now (table .entry))) ⌝ }
 {
     let mut before: usize = NO_MEMBER;
-    let mut at = first;
     let mut i: usize = 0;
     while i < count {
         let e = entry_at(table, i);
         if !keeps_entry(k, contents, e) {
-            return Verdict::Refused(Refusal::Content(at));
+            return Verdict::Refused(Refusal::Content(i));
         }
         let after = next_id(table, i + 1, count);
         if !group_kept(before, e.id, after) {
-            return Verdict::Refused(Refusal::Group(at));
+            return Verdict::Refused(Refusal::Group(i));
         }
         before = e.id;
-        at += 1;
         i += 1;
     }
     Verdict::Fits(0)
@@ -143,7 +135,7 @@ pub fn judge_fields(
 
 // How long the record becomes, or one more than the most where it is too long.
 pub fn record_width(fixed: usize, table: &[usize], count: usize) -> usize
-    requires { ⌜ (fixed ≤ mostBytes) × (count ≤ mostFields) × (count * entryWidth ≤ length (now table)) ⌝ }
+    requires { ⌜ (fixed ≤ 108) × (count ≤ mostFields) × (count * entryWidth ≤ length (now table)) ⌝ }
     ensures { λ r. ⌜ r ≡ capped mostBytes (widthAfter fixed (entries count (now (table .entry)))) ⌝ }
 {
     let mut n = fixed;

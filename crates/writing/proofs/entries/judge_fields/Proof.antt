@@ -1,8 +1,7 @@
 -- `writing::entries::judge_fields` meets its contract. The invariant: the fields that are left are judged as all are.
 use mathlib.Core.Path.{_≡_, _∙_, sym}
-use Prim.Native.Nat.{_+_, _-_, _*_, _≤_}
+use Prim.Native.Nat.{_-_, _*_, _≤_}
 use native.Mathlib.Nat.{sub-zero}
-use native.Mathlib.Omega.{arith}
 use lib.ListN.{drop}
 use Rattle.cells.proofs.Bools.{is-not, is-so}
 use Rattle.record.specs.Contents.{noMember}
@@ -14,16 +13,13 @@ use Rattle.writing.proofs.entries.judge_fields.Statement.{statement}
 use Rattle.writing.proofs.entries.judge_fields.Tie as tie
 
 abbrev Inv-loop : tie.InvT-loop
-Inv-loop k first table count contents before₀ at₀ i₀ before at i =
-    (i ≤ count)
-    × (at ≡ first + i)
-    × (fieldsJudged k contents noMember first (entries count table) ≡ fieldsJudged k contents before at (entries (count - i) (drop (i * entryWidth) table)))
+Inv-loop k table count contents before₀ i₀ before i = (i ≤ count) × (fieldsJudged k contents noMember 0 (entries count table) ≡ fieldsJudged k contents before i (entries (count - i) (drop (i * entryWidth) table)))
 
 abbrev μ-loop : tie.MeasureT-loop
-μ-loop k first table count contents before₀ at₀ i₀ before at i = count - i
+μ-loop k table count contents before₀ i₀ before i = count - i
 
 loop-holds : tie.Need-loop-holds Inv-loop μ-loop
-loop-holds c = (search needs, omega arith, rw sub-zero)
+loop-holds c = (search needs, rw sub-zero)
 
 entry-at-requires : tie.Need-entry-at-requires Inv-loop μ-loop
 entry-at-requires c κs = search needs
@@ -35,7 +31,7 @@ returns : tie.Need-returns Inv-loop μ-loop
 returns c =
     let d = c .before .before in
     let l = d .before .before .loop in
-    sym (l .inv .2 ∙ content-refused _ (l .i) _ (d .before .loop-test .taken) (d .entry-at .result) (d .entry-at .ensures) _ _ (l .before) (l .at) (is-not (c .before .keeps-entry .ensures) (c .if1 .taken)))
+    sym (l .inv .1 ∙ content-refused _ (l .i) _ (d .before .loop-test .taken) (d .entry-at .result) (d .entry-at .ensures) _ _ (l .before) (is-not (c .before .keeps-entry .ensures) (c .if1 .taken)))
 
 add-next-id : tie.Need-add-next-id Inv-loop μ-loop
 add-next-id c = search needs
@@ -52,10 +48,7 @@ returns-2 c =
     let d = b .before .before in
     let l = d .before .before .loop in
     let a = is-so (b .before .keeps-entry .ensures) (b .if1 .left) in
-    sym (l .inv .2 ∙ group-refused _ (l .i) _ (d .before .loop-test .taken) (d .entry-at .result) (d .entry-at .ensures) _ _ (l .before) (l .at) a _ (c .before .before .next-id .ensures) (is-not (c .before .group-kept .ensures) (c .if2 .taken)))
-
-add-at : tie.Need-add-at Inv-loop μ-loop
-add-at c = search needs
+    sym (l .inv .1 ∙ group-refused _ (l .i) _ (d .before .loop-test .taken) (d .entry-at .result) (d .entry-at .ensures) _ _ (l .before) a _ (c .before .before .next-id .ensures) (is-not (c .before .group-kept .ensures) (c .if2 .taken)))
 
 add-i : tie.Need-add-i Inv-loop μ-loop
 add-i c = search needs
@@ -69,12 +62,12 @@ loop-again c =
     let d = b .before .before in
     let l = d .before .before .loop in
     let a = is-so (b .before .keeps-entry .ensures) (b .if1 .left) in
-    (search needs, omega (arith, l .inv .1), l .inv .2 ∙ field-passed _ (l .i) _ (d .before .loop-test .taken) (d .entry-at .result) (d .entry-at .ensures) _ _ (l .before) (l .at) a _ (c .before .before .next-id .ensures) (is-so (c .before .group-kept .ensures) (c .if2 .left)))
+    (search needs, l .inv .1 ∙ field-passed _ (l .i) _ (d .before .loop-test .taken) (d .entry-at .result) (d .entry-at .ensures) _ _ (l .before) a _ (c .before .before .next-id .ensures) (is-so (c .before .group-kept .ensures) (c .if2 .left)))
 
 returns-3 : tie.Need-returns-3 Inv-loop μ-loop
 returns-3 c =
     let l = c .before .loop in
-    sym (l .inv .2 ∙ fields-end _ _ (l .before) (l .at) _ (l .i) _ (c .loop-test .left))
+    sym (l .inv .1 ∙ fields-end _ _ (l .before) _ (l .i) _ (c .loop-test .left))
 
 pub judge-fields-spec : {M : Type 1} → statement M
 judge-fields-spec =
@@ -90,7 +83,6 @@ judge-fields-spec =
     next-id-requires
     group-kept-requires
     returns-2
-    add-at
     add-i
     loop-less
     loop-again
