@@ -1,13 +1,17 @@
 -- Days, by the tests that the code makes.
-use mathlib.Core.Path.{_≡_}
-use mathlib.Core.Bool.{true, false}
+use mathlib.Core.Path.{_≡_, _∙_, ap, sym, refl}
+use mathlib.Core.Bool.{true, false, _&&_}
 use mathlib.Core.List.{List}
-use Prim.Native.Nat.{ℕ}
+use Prim.Native.Nat.{ℕ, zero, suc, _+_, _/_, _%_, _≤_}
+use native.Mathlib.Omega.{arith}
 use borrow.Author.Tests.{eq-eqb, ne-eqb}
-use lib.ListN.{length}
-use Rattle.cells.proofs.Bools.{split}
-use Rattle.rules.specs.Class.{allOf}
-use Rattle.rules.specs.Day.{dayOf, realDay, isDay, dated, dayKept}
+use lib.ListN.{length, getD}
+use lib.Seq.{slice, take-all}
+use Rattle.cells.specs.Bytes.{all}
+use Rattle.cells.proofs.Bools.{split, and-true}
+use Rattle.cells.proofs.Parts.{next, nothing}
+use Rattle.rules.specs.Class.{digit, belongs, allOf}
+use Rattle.rules.specs.Day.{dayWidth, monthLengths, dayOf, realDay, isDay, dated, dayKept}
 use Rattle.rules.specs.declared.class.Class.the-variants.{Digit}
 use Rattle.rules.specs.declared.day.Day.{Day}
 use Rattle.rules.specs.declared.day.Dated.the-variants.{Real, Unreal}
@@ -51,3 +55,29 @@ module _ (s : List ℕ) where
   pub no-day : dated s ≡ Unreal → isDay s ≡ false
   unfolding dated
   no-day h = split (isDay s) (λ e. let z = rw e at h in cc) (λ e. e)
+
+-- the months other than the second have 31 and 30 days in turn, the seventh and the eighth both 31
+pub long-month : (m : ℕ) → (m ≡ 2 → ⊥) → 1 ≤ m → m ≤ 12 → 30 + (m + m / 8) % 2 ≡ getD monthLengths m 0
+long-month zero ne l h = absurd (omega arith)
+long-month (suc zero) ne l h = refl
+long-month (suc (suc zero)) ne l h = absurd (ne refl)
+long-month (suc (suc (suc zero))) ne l h = refl
+long-month (suc (suc (suc (suc zero)))) ne l h = refl
+long-month (suc (suc (suc (suc (suc zero))))) ne l h = refl
+long-month (suc (suc (suc (suc (suc (suc zero)))))) ne l h = refl
+long-month (suc (suc (suc (suc (suc (suc (suc zero))))))) ne l h = refl
+long-month (suc (suc (suc (suc (suc (suc (suc (suc zero)))))))) ne l h = refl
+long-month (suc (suc (suc (suc (suc (suc (suc (suc (suc zero))))))))) ne l h = refl
+long-month (suc (suc (suc (suc (suc (suc (suc (suc (suc (suc zero)))))))))) ne l h = refl
+long-month (suc (suc (suc (suc (suc (suc (suc (suc (suc (suc (suc zero))))))))))) ne l h = refl
+long-month (suc (suc (suc (suc (suc (suc (suc (suc (suc (suc (suc (suc zero)))))))))))) ne l h = refl
+long-month (suc (suc (suc (suc (suc (suc (suc (suc (suc (suc (suc (suc (suc m))))))))))))) ne l h = absurd (omega arith)
+
+-- eight bytes are digits where each of them is one
+pub eight-digits : (s : List ℕ) → length s ≡ dayWidth
+    → allOf Digit s ≡ digit (getD s 0 0) && (digit (getD s 1 0) && (digit (getD s 2 0) && (digit (getD s 3 0) && (digit (getD s 4 0) && (digit (getD s 5 0) && (digit (getD s 6 0) && digit (getD s 7 0)))))))
+unfolding allOf all belongs
+eight-digits s h =
+    let whole : slice 0 8 s ≡ s = take-all 8 s (omega arith) in
+    ap (allOf Digit) (sym whole)
+    ∙ rw (next s 0 8 (omega arith) (omega arith), next s 1 8 (omega arith) (omega arith), next s 2 8 (omega arith) (omega arith), next s 3 8 (omega arith) (omega arith), next s 4 8 (omega arith) (omega arith), next s 5 8 (omega arith) (omega arith), next s 6 8 (omega arith) (omega arith), next s 7 8 (omega arith) (omega arith), nothing 8 8 s (omega arith), and-true (digit (getD s 7 0))) refl

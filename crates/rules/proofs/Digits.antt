@@ -9,11 +9,12 @@ use native.Mathlib.Omega.{arith}
 use borrow.Author.Tests.{leb-true}
 use lib.Dec.{leb, lit<}
 use lib.ListN.{length, getD, drop, drop-of-length-le}
-use lib.Seq.{drop-cons}
+use lib.Seq.{slice, drop-cons}
 use Rattle.cells.specs.Bytes.{all}
 use Rattle.cells.proofs.Bools.{and-left, and-right}
+use Rattle.cells.proofs.Parts.{next, nothing}
 use Rattle.rules.specs.Class.{digit}
-use Rattle.rules.specs.Number.{numberFrom, digitValue}
+use Rattle.rules.specs.Number.{numberFrom, number, digitValue}
 
 -- a digit counts less than ten
 pub digit-small : (b : ℕ) → digit b ≡ true → digitValue b < 10
@@ -21,6 +22,18 @@ digit-small b e =
     let l = leb-true 48 b (and-left (leb 48 b) (leb b 57) e) in
     let u = leb-true b 57 (and-right (leb 48 b) (leb b 57) e) in
     omega arith
+
+-- the two digits at a place, and four as two pairs
+pub pair-is : (s : List ℕ) (at : ℕ) → at + 2 ≤ length s → number (slice at (at + 2) s) ≡ digitValue (getD s at 0) * 10 + digitValue (getD s (at + 1) 0)
+unfolding numberFrom
+pair-is s at h =
+    let end : at + 1 + 1 ≡ at + 2 = omega arith in
+    rw (next s at (at + 2) (omega arith) h, next s (at + 1) (at + 2) (omega arith) h, end, nothing (at + 2) (at + 2) s (omega arith)) (omega arith)
+
+pub pairs-are : (s : List ℕ) → 4 ≤ length s → number (slice 0 4 s) ≡ number (slice 0 2 s) * 100 + number (slice 2 4 s)
+unfolding numberFrom
+pairs-are s h =
+    rw (pair-is s 0 (omega arith), pair-is s 2 (omega arith), next s 0 4 (omega arith) h, next s 1 4 (omega arith) h, next s 2 4 (omega arith) h, next s 3 4 (omega arith) h, nothing 4 4 s (omega arith)) (omega arith)
 
 -- w digits spell a number below 10 ^ w, at every width
 pub width : (n w : ℕ) (xs : List ℕ) → n < 10 ^ w → all digit xs ≡ true → numberFrom n xs < 10 ^ (w + length xs)

@@ -1,10 +1,12 @@
 // A day of the Gregorian calendar.
 ghost use mathlib.Core.Path.{_≡_};
-ghost use Rattle.rules.specs.Day.{leap, monthDays, realDay, dayOf, dated};
-use crate::class::Class;
-use crate::class::all_of;
-use crate::number::number_of;
-use cells::part;
+ghost use Rattle.rules.specs.Day.{dayWidth, monthLengths, leap, monthDays, realDay, dayOf, dated};
+ghost use lib.ListN.{length, getD};
+ghost use Rattle.rules.specs.Class.{digit, allOf};
+ghost use Rattle.rules.specs.declared.class.Class.the-variants.{Digit};
+use crate::class::NINE;
+use crate::class::ZERO;
+use crate::number::pair_at;
 
 pub struct Day {
     pub year: u64,
@@ -18,7 +20,9 @@ pub enum Dated {
     Unreal,
 }
 
-const MONTHS: [u64; 13] = [0, 31, 28, 31, 30, 31, 30, 31, 31, 30, 31, 30, 31];
+const FEBRUARY: u64 = 2;
+
+const LAST_MONTH: u64 = 12;
 
 fn is_leap(year: u64) -> bool
     ensures { λ r. ⌜ r ≡ leap year ⌝ }
@@ -26,26 +30,59 @@ fn is_leap(year: u64) -> bool
     (year % 4 == 0) & ((year % 100 != 0) | (year % 400 == 0))
 }
 
+// The days of a month other than February: 31 and 30 in turn up to July, and so from August on; 0 where there is no such month.
+fn long_month(month: u64) -> u64
+    requires { ⌜ (month ≡ 2 → ⊥) ⌝ }
+    ensures { λ r. ⌜ r ≡ getD monthLengths month 0 ⌝ }
+{
+    if month == 0 {
+        return 0;
+    }
+    if LAST_MONTH < month {
+        return 0;
+    }
+    30 + (month + month / 8) % 2
+}
+
 // The days of a month, 0 where there is no such month.
 fn month_days(year: u64, month: u64) -> u64
     ensures { λ r. ⌜ r ≡ monthDays year month ⌝ }
 {
-    if (month == 2) & is_leap(year) {
+    if month != FEBRUARY {
+        return long_month(month);
+    }
+    if is_leap(year) {
         return 29;
     }
-    if month < 13 {
-        return MONTHS[month as usize];
-    }
-    0
+    28
+}
+
+fn is_digit(b: u8) -> bool
+    ensures { λ r. ⌜ r ≡ digit b ⌝ }
+{
+    (ZERO <= b) & (b <= NINE)
+}
+
+// Whether eight bytes are digits; none of them ends the test, so that they are judged together.
+fn are_digits(s: &[u8]) -> bool
+    requires { ⌜ length (now s) ≡ dayWidth ⌝ }
+    ensures { λ r. ⌜ r ≡ allOf Digit (now (s .entry)) ⌝ }
+{
+    is_digit(s[0])
+        & (is_digit(s[1])
+            & (is_digit(s[2])
+                & (is_digit(s[3])
+                    & (is_digit(s[4]) & (is_digit(s[5]) & (is_digit(s[6]) & is_digit(s[7])))))))
 }
 
 // The parts of a day in eight digits, whether or not there is such a day.
 fn day_parts(s: &[u8]) -> Day
+    requires { ⌜ length (now s) ≡ dayWidth ⌝ }
     ensures { λ r. ⌜ r ≡ dayOf (now (s .entry)) ⌝ }
 {
-    let year = number_of(part(s, 0, 4));
-    let month = number_of(part(s, 4, 6));
-    let day = number_of(part(s, 6, 8));
+    let year = pair_at(s, 0) * 100 + pair_at(s, 2);
+    let month = pair_at(s, 4);
+    let day = pair_at(s, 6);
     Day { year, month, day }
 }
 
@@ -72,7 +109,7 @@ impl Day {
         if s.len() != Day::WIDTH {
             return Dated::Unreal;
         }
-        if !all_of(Class::Digit, s) {
+        if !are_digits(s) {
             return Dated::Unreal;
         }
         let day = day_parts(s);

@@ -107,7 +107,8 @@ pub fn is_day(s: &[u8]) -> bool
     }
 }
 
-fn is_expected(s: &[u8]) -> bool
+// Whether bytes are one of the three forms of an expected date.
+pub fn is_expected(s: &[u8]) -> bool
     ensures { λ r. ⌜ r ≡ expected (now (s .entry)) ⌝ }
 {
     is_day(s)

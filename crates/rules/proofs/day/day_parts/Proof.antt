@@ -1,44 +1,46 @@
--- `rules::day::day_parts` meets its contract: each number is that of its part, which is short enough to count.
+-- `rules::day::day_parts` meets its contract: each part is read in pairs of digits.
 use native.Mathlib.Omega.{arith}
 use Rattle.rules.specs.Day.{dayOf}
-use Rattle.rules.proofs.Parts.{part-most}
+use Rattle.rules.proofs.Digits.{pairs-are}
 use borrow.Author.Needs.{needs}
 use Rattle.rules.proofs.day.day_parts.Statement.{statement}
 use Rattle.rules.proofs.day.day_parts.Tie as tie
 
-part-requires : tie.Need-part-requires
-part-requires c κs = search needs
+pair-at-requires : tie.Need-pair-at-requires
+pair-at-requires c κs = search needs
 
-number-of-requires : tie.Need-number-of-requires
-number-of-requires c κs = rw (c .part .ensures) (omega (arith, part-most 0 4 (c .before .before .args .s .now)))
+mul-year : tie.Need-mul-year
+mul-year c = search needs
 
-part-requires-2 : tie.Need-part-requires-2
-part-requires-2 c κs = search needs
+pair-at-requires-2 : tie.Need-pair-at-requires-2
+pair-at-requires-2 c κs = search needs
 
-number-of-requires-2 : tie.Need-number-of-requires-2
-number-of-requires-2 c κs = rw (c .part2 .ensures) (omega (arith, part-most 4 6 (c .before .before .before .before .args .s .now)))
+add-year : tie.Need-add-year
+add-year c = search needs
 
-part-requires-3 : tie.Need-part-requires-3
-part-requires-3 c κs = search needs
+pair-at-requires-3 : tie.Need-pair-at-requires-3
+pair-at-requires-3 c κs = search needs
 
-number-of-requires-3 : tie.Need-number-of-requires-3
-number-of-requires-3 c κs = rw (c .part3 .ensures) (omega (arith, part-most 6 8 (c .before .before .before .before .before .before .args .s .now)))
+pair-at-requires-4 : tie.Need-pair-at-requires-4
+pair-at-requires-4 c κs = search needs
 
 returns : tie.Need-returns
 unfolding dayOf
 returns c =
-    let m = c .before .before in
-    let y = m .before .before in
-    rw (y .number-of .ensures, y .before .part .ensures, m .number-of2 .ensures, m .before .part2 .ensures, c .number-of3 .ensures, c .before .part3 .ensures)
+    let month = c .before in
+    let low = month .before in
+    let high = low .before in
+    let start = high .before .before in
+    rw (pairs-are (start .args .s .now) (omega arith), high .pair-at .ensures .0, low .pair-at2 .ensures .0, month .pair-at3 .ensures .0, c .pair-at4 .ensures .0)
 
 pub day-parts-spec : {M : Type 1} → statement M
 day-parts-spec =
     tie.close
     (tie.spec
-    part-requires
-    number-of-requires
-    part-requires-2
-    number-of-requires-2
-    part-requires-3
-    number-of-requires-3
+    pair-at-requires
+    mul-year
+    pair-at-requires-2
+    add-year
+    pair-at-requires-3
+    pair-at-requires-4
     returns)

@@ -9,11 +9,11 @@ use Rattle.rules.proofs.day.Day.of_digits.Tie as tie
 returns : tie.Need-returns
 returns c = sym (dated-long _ (c .if1 .taken))
 
-all-of-requires : tie.Need-all-of-requires
-all-of-requires c κs = search needs
+are-digits-requires : tie.Need-are-digits-requires
+are-digits-requires c κs = search needs
 
 returns-2 : tie.Need-returns-2
-returns-2 c = sym (dated-other _ (c .before .before .if1 .left) (is-not (c .before .all-of .ensures) (c .if2 .taken)))
+returns-2 c = sym (dated-other _ (c .before .before .if1 .left) (is-not (c .before .are-digits .ensures) (c .if2 .taken)))
 
 day-parts-requires : tie.Need-day-parts-requires
 day-parts-requires c κs = search needs
@@ -24,13 +24,13 @@ is-real-requires c κs = search needs
 returns-3 : tie.Need-returns-3
 returns-3 c =
     let d = c .before .before in
-    let e = is-so (d .before .before .all-of .ensures) (d .before .if2 .left) in
+    let e = is-so (d .before .before .are-digits .ensures) (d .before .if2 .left) in
     sym (dated-unreal _ (d .before .before .before .if1 .left) e (rw (d .day-parts .ensures) at (is-not (c .before .is-real .ensures) (c .if3 .taken))))
 
 returns-4 : tie.Need-returns-4
 returns-4 c =
     let d = c .before .before in
-    let e = is-so (d .before .before .all-of .ensures) (d .before .if2 .left) in
+    let e = is-so (d .before .before .are-digits .ensures) (d .before .if2 .left) in
     rw (d .day-parts .ensures)
     (sym (dated-real _ (d .before .before .before .if1 .left) e (rw (d .day-parts .ensures) at (is-so (c .before .is-real .ensures) (c .if3 .left)))))
 
@@ -39,7 +39,7 @@ of-digits-spec =
     tie.close
     (tie.spec
     returns
-    all-of-requires
+    are-digits-requires
     returns-2
     day-parts-requires
     is-real-requires
