@@ -7,30 +7,41 @@ use lib.ListN.{length, set}
 use lib.Seq.{sets}
 use Rattle.cells.specs.Little.{leBytes}
 use Rattle.cells.proofs.Stores.{sets-append}
+use Rattle.rules.specs.Values.{copies}
 use Rattle.rules.specs.declared.amount.Copies.{Copies}
+use Rattle.entry.specs.Report.{blankDate, messageNumber}
 use Rattle.entry.specs.Line.{markByte}
-use Rattle.entry.specs.Stored.{lineWidth, orderedAt, markAt, arrivedAt, slipWidth, slipKeyWidth, slipCopiesPlace, lineBytes, putLine, addLine, addSlip}
-use Rattle.entry.specs.declared.line.Line.{Line}
+use Rattle.entry.specs.Stored.{lineWidth, orderedAt, markAt, messageAt, expectedAt, arrivedAt, slipWidth, slipKeyWidth, slipCopiesPlace, reportBytes, newBytes, putIn, putArrived, putReport, addLine, addSlip}
+use Rattle.entry.specs.declared.line.Mark.{Mark}
+use Rattle.entry.specs.declared.line.Mark.the-variants.{Unmarked}
+use Rattle.entry.specs.declared.report.Message.{Message}
+use Rattle.entry.specs.declared.report.Message.the-variants.{NoReport}
 
--- Q, the mark and A
-pub put-line : (ls : List ℕ) (i : ℕ) (l : Line)
-    → sets (set (sets ls (lineWidth * i + orderedAt) (leBytes 2 (l .ordered .0))) (lineWidth * i + markAt) (markByte (l .mark))) (lineWidth * i + arrivedAt) (leBytes 4 (l .arrived .0)) ≡ putLine ls i l
-unfolding putLine lineBytes leBytes
-put-line ls i l =
-    let m : lineWidth * i + markAt ≡ suc (suc (lineWidth * i + orderedAt)) = omega arith in
-    let a : lineWidth * i + arrivedAt ≡ suc (suc (suc (lineWidth * i + orderedAt))) = omega arith in
-    rw (m, a)
+-- mark, message and expected date
+pub put-report : (ls : List ℕ) (i : ℕ) (m : Mark) (n : Message) (date : List ℕ)
+    → sets (sets (set ls (lineWidth * i + markAt) (markByte m)) (lineWidth * i + messageAt) (leBytes 2 (messageNumber n))) (lineWidth * i + expectedAt) date ≡ putReport ls i m n date
+unfolding putReport putIn reportBytes leBytes
+put-report ls i m n date =
+    let p : lineWidth * i + messageAt ≡ suc (lineWidth * i + markAt) = omega arith in
+    let q : lineWidth * i + expectedAt ≡ suc (suc (suc (lineWidth * i + markAt))) = omega arith in
+    rw (p, q)
 
--- the key and article, and the line's values after them
-pub add-line : (ls : List ℕ) (i : ℕ) (named : List ℕ) (l : Line) → length named ≡ orderedAt → putLine (sets ls (lineWidth * i) named) i l ≡ addLine ls i named l
-unfolding putLine addLine
-add-line ls i named l e = rw (sets-append ls (lineWidth * i) named (lineBytes l), e)
+-- a new line: the key and article, Q, no report, and no copies
+pub add-line : (ls : List ℕ) (i : ℕ) (named : List ℕ) (n : Copies) → length named ≡ orderedAt
+    → putArrived (putReport (putIn (sets ls (lineWidth * i) named) i orderedAt (leBytes 2 (n .0))) i Unmarked NoReport blankDate) i (copies 0) ≡ addLine ls i named n
+unfolding putArrived putReport putIn addLine newBytes reportBytes markByte messageNumber leBytes
+add-line ls i named n e =
+    let p : lineWidth * i + markAt ≡ suc (suc (lineWidth * i + orderedAt)) = omega arith in
+    let q : lineWidth * i + arrivedAt ≡ suc (suc (suc (suc (suc (suc (suc (suc (suc (suc (suc (suc (suc (lineWidth * i + orderedAt))))))))))))) = omega arith in
+    rw (sets-append ls (lineWidth * i) named (newBytes n), e, p, q)
 
 -- the key and article stored in two parts
-pub add-line-parts : (ls : List ℕ) (i : ℕ) (front back : List ℕ) (l : Line) → length (front ++ back) ≡ orderedAt
-    → putLine (sets (sets ls (lineWidth * i) front) (lineWidth * i + length front) back) i l ≡ addLine ls i (front ++ back) l
-add-line-parts ls i front back l e =
-    ap (λ (d : List ℕ). putLine d i l) (sym (sets-append ls (lineWidth * i) front back)) ∙ add-line ls i (front ++ back) l e
+pub add-line-parts : (ls : List ℕ) (i : ℕ) (front back : List ℕ) (n : Copies) → length (front ++ back) ≡ orderedAt
+    → putArrived (putReport (putIn (sets (sets ls (lineWidth * i) front) (lineWidth * i + length front) back) i orderedAt (leBytes 2 (n .0))) i Unmarked NoReport blankDate) i (copies 0)
+    ≡ addLine ls i (front ++ back) n
+add-line-parts ls i front back n e =
+    ap (λ (d : List ℕ). putArrived (putReport (putIn d i orderedAt (leBytes 2 (n .0))) i Unmarked NoReport blankDate) i (copies 0)) (sym (sets-append ls (lineWidth * i) front back))
+    ∙ add-line ls i (front ++ back) n e
 
 -- the key, and after it the index and the quantity
 pub add-slip : (ss : List ℕ) (j : ℕ) (key : List ℕ) (line : ℕ) (n : Copies) → length key ≡ slipKeyWidth

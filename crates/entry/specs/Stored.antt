@@ -7,14 +7,19 @@ use lib.ListN.{getD}
 use lib.Seq.{slice, sets}
 use Rattle.cells.specs.Bytes.{pick, within, same}
 use Rattle.cells.specs.Little.{leAt, leBytes}
-use Rattle.rules.specs.Values.{copies}
+use Rattle.rules.specs.Values.{copies, expectedOf}
 use Rattle.rules.specs.declared.amount.Copies.{Copies}
+use Rattle.entry.specs.Report.{blankDate, messageOf, messageNumber, reportSound}
 use Rattle.entry.specs.Line.{markOf, markByte, figuresOf}
+use Rattle.entry.specs.declared.report.Message.{Message}
+use Rattle.entry.specs.declared.report.Message.the-variants.{NoReport}
+use Rattle.entry.specs.declared.line.Mark.{Mark}
+use Rattle.entry.specs.declared.line.Mark.the-variants.{Unmarked}
 use Rattle.entry.specs.declared.line.Line.{Line}
 
--- a line is 56 bytes: key 34, the article of its order with its qualifier 15, Q 2, mark 1, A 4
+-- a line is 66 bytes: key 34, the article of its order with its qualifier 15, Q 2, mark 1, message 2, expected date 8, A 4
 abbrev pub lineWidth : ℕ
-lineWidth = 56
+lineWidth = 66
 
 abbrev pub keyWidth : ℕ
 keyWidth = 34
@@ -29,8 +34,14 @@ schoolWidth = 12
 abbrev pub markAt : ℕ
 markAt = 51
 
+abbrev pub messageAt : ℕ
+messageAt = 52
+
+abbrev pub expectedAt : ℕ
+expectedAt = 54
+
 abbrev pub arrivedAt : ℕ
-arrivedAt = 52
+arrivedAt = 62
 
 -- a slip is 50 bytes: key 46, line index 2, quantity 2
 abbrev pub slipWidth : ℕ
@@ -49,23 +60,40 @@ mostCopies = 9999
 abbrev pub mostArrived : ℕ
 mostArrived = 9999999
 
+-- the expected date of the line at i, in its bytes
+unfoldable pub dateAt : List ℕ → ℕ → List ℕ
+dateAt lines i = slice (lineWidth * i + expectedAt) (lineWidth * i + arrivedAt) lines
+
 unfoldable pub lineAt : List ℕ → ℕ → Line
 lineAt lines i = record {
   ordered = copies (leAt lines (lineWidth * i + orderedAt) 2);
   arrived = copies (leAt lines (lineWidth * i + arrivedAt) 4);
   mark = markOf (getD lines (lineWidth * i + markAt) 0);
+  message = messageOf (leAt lines (lineWidth * i + messageAt) 2);
+  expected = expectedOf (dateAt lines i);
 }
 
--- the seven bytes of a line after its key and article
-unfoldable pub lineBytes : Line → List ℕ
-lineBytes l = leBytes 2 (l .ordered .0) ++ (markByte (l .mark) ∷ leBytes 4 (l .arrived .0))
+-- bytes put into the line at i, from a place of its entry on
+unfoldable pub putIn : List ℕ → ℕ → ℕ → List ℕ → List ℕ
+putIn lines i at s = sets lines (lineWidth * i + at) s
 
-unfoldable pub putLine : List ℕ → ℕ → Line → List ℕ
-putLine lines i l = sets lines (lineWidth * i + orderedAt) (lineBytes l)
+-- A, where copies arrived
+unfoldable pub putArrived : List ℕ → ℕ → Copies → List ℕ
+putArrived lines i n = putIn lines i arrivedAt (leBytes 4 (n .0))
 
--- a line with what it is named by: its key, then its article
-unfoldable pub addLine : List ℕ → ℕ → List ℕ → Line → List ℕ
-addLine lines i named l = sets lines (lineWidth * i) (named ++ lineBytes l)
+-- mark, message and expected date, where a report came; the date stands as in the record
+unfoldable pub reportBytes : Mark → Message → List ℕ → List ℕ
+reportBytes m n date = markByte m ∷ (leBytes 2 (messageNumber n) ++ date)
+
+unfoldable pub putReport : List ℕ → ℕ → Mark → Message → List ℕ → List ℕ
+putReport lines i m n date = putIn lines i markAt (reportBytes m n date)
+
+-- a new line: what it is named by, its key and then its article; so many copies are ordered, no report has come and nothing has arrived
+unfoldable pub newBytes : Copies → List ℕ
+newBytes n = leBytes 2 (n .0) ++ (reportBytes Unmarked NoReport blankDate ++ leBytes 4 0)
+
+unfoldable pub addLine : List ℕ → ℕ → List ℕ → Copies → List ℕ
+addLine lines i named n = sets lines (lineWidth * i) (named ++ newBytes n)
 
 unfoldable pub keyAt : List ℕ → ℕ → List ℕ
 keyAt lines i = slice (lineWidth * i) (lineWidth * i + keyWidth) lines
@@ -91,10 +119,12 @@ schoolIs lines school i = same (schoolAt lines i) school
 unfoldable pub openAt : List ℕ → List ℕ → ℕ → ℕ
 openAt lines school i = pick (schoolIs lines school i) (figuresOf (lineAt lines i) .«still_open» .0) 0
 
+-- Q and A are within their limits, and mark, message and expected date go together (RULES 6.4)
 unfoldable pub lineSound : List ℕ → ℕ → Bool
 lineSound lines i =
     within 1 mostCopies (leAt lines (lineWidth * i + orderedAt) 2)
-    && (leb (getD lines (lineWidth * i + markAt) 0) 2 && leb (leAt lines (lineWidth * i + arrivedAt) 4) mostArrived)
+    && (leb (leAt lines (lineWidth * i + arrivedAt) 4) mostArrived
+    && reportSound (getD lines (lineWidth * i + markAt) 0) (leAt lines (lineWidth * i + messageAt) 2) (dateAt lines i))
 
 unfoldable pub slipKeyAt : List ℕ → ℕ → List ℕ
 slipKeyAt slips j = slice (slipWidth * j) (slipWidth * j + slipKeyWidth) slips

@@ -1,4 +1,4 @@
-// A line and a slip of the book: as values, and in lent bytes at fixed widths.
+// A line of the book as a value, with its last report; where the fields of a key stand.
 pub mod key;
 pub mod line;
-pub mod stored;
+pub mod report;

@@ -2,8 +2,12 @@
 ghost use mathlib.Core.Path.{_≡_};
 ghost use Prim.Native.Nat.{_+_, _<_, _^_, min};
 ghost use Rattle.rules.specs.Values.{copies};
-ghost use Rattle.entry.specs.Line.{markOf, markByte, openOf, letGoOf, withMark, withArrivals, figuresOf};
+ghost use Rattle.entry.specs.Line.{markOf, markByte, missing, openOf, letGoOf, withReport, withArrivals, figuresOf, reportedOf};
+use crate::report::Message;
+use crate::report::Reported;
+use crate::report::report_told;
 use rules::amount::Copies;
+use rules::expected::Expected;
 
 // The last report mark: none, J or N.
 pub enum Mark {
@@ -12,11 +16,13 @@ pub enum Mark {
     Dropped,
 }
 
-// The ordered quantity Q, the sum A of its slips, and the last mark.
+// The ordered quantity Q, the sum A of its slips, and what its last report said: mark, message and expected date.
 pub struct Line {
     pub ordered: Copies,
     pub arrived: Copies,
     pub mark: Mark,
+    pub message: Message,
+    pub expected: Expected,
 }
 
 #[repr(C)]
@@ -57,8 +63,18 @@ fn smaller(a: Copies, b: Copies) -> Copies
     if a.0 < b.0 { a } else { b }
 }
 
+// The copies of q that are not among a.
+pub fn missing(q: Copies, a: Copies) -> Copies
+    ensures { λ r. ⌜ r ≡ missing q a ⌝ }
+{
+    if a.0 < q.0 {
+        return Copies(q.0 - a.0);
+    }
+    Copies(0)
+}
+
 // What of the copies not filled is open, and what is let go.
-fn open_of(m: Mark, n: Copies) -> Copies
+pub fn open_of(m: Mark, n: Copies) -> Copies
     ensures { λ r. ⌜ r ≡ openOf m n ⌝ }
 {
     match m {
@@ -79,16 +95,18 @@ fn let_go_of(m: Mark, n: Copies) -> Copies
 }
 
 impl Line {
-    // The line with its mark set.
-    pub fn with_mark(self, m: Mark) -> Self
-        ensures { λ r. ⌜ r ≡ withMark m self ⌝ }
+    // The line with what a report says.
+    pub fn with_report(self, mark: Mark, message: Message, expected: Expected) -> Self
+        ensures { λ r. ⌜ r ≡ withReport mark message expected self ⌝ }
     {
         let ordered = self.ordered;
         let arrived = self.arrived;
         Line {
             ordered,
             arrived,
-            mark: m,
+            mark,
+            message,
+            expected,
         }
     }
 
@@ -109,7 +127,7 @@ impl Line {
         let a = self.arrived;
         let m = self.mark;
         let filled = smaller(q, a);
-        let left = Copies(q.0 - filled.0);
+        let left = missing(q, a);
         let still_open = open_of(m, left);
         let let_go = let_go_of(m, left);
         let extra = Copies(a.0 - filled.0);
@@ -120,5 +138,14 @@ impl Line {
             let_go,
             extra,
         }
+    }
+
+    // What its last report said, as it is told.
+    pub fn reported(self) -> Reported
+        ensures { λ r. ⌜ r ≡ reportedOf self ⌝ }
+    {
+        let message = self.message;
+        let expected = self.expected;
+        report_told(message, expected)
     }
 }
