@@ -2,6 +2,3 @@ pub mod Sounds
 pub mod Finds
 pub mod Opens
 pub mod Fields
-pub mod Wide
-pub mod Compared
-pub mod Given

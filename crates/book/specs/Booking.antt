@@ -11,7 +11,8 @@ use Rattle.roster.specs.Roster.{rosterSound, standing}
 use Rattle.roster.specs.declared.Standing.{Standing}
 use Rattle.roster.specs.declared.Standing.the-variants.{On, Off}
 use Rattle.rules.specs.Class.{allOf}
-use Rattle.rules.specs.Values.{copies, copiesOf}
+use Rattle.rules.specs.Number.{number}
+use Rattle.rules.specs.Values.{copies, copiesOf, expectedOf}
 use Rattle.rules.specs.declared.amount.Copies.{Copies}
 use Rattle.rules.specs.declared.class.Class.the-variants.{Blank}
 use Rattle.record.specs.Layout.{kindOf}
@@ -24,12 +25,15 @@ use Rattle.record.specs.declared.layout.Kind.{Kind}
 use Rattle.record.specs.declared.layout.Kind.the-variants.{Order, Goods, Closing, Report}
 use Rattle.record.specs.declared.layout.Kinded.{Kinded}
 use Rattle.record.specs.declared.layout.Kinded.the-variants.{Known, Unknown}
-use Rattle.entry.specs.Line.{withMark, withArrivals, figuresOf}
-use Rattle.entry.specs.Stored.{mostArrived, lineAt, putLine, addLine, keyIs, articleIs, slipLineAt, slipCopiesAt, addSlip}
+use Rattle.entry.specs.Line.{newLine, withReport, withArrivals, figuresOf, reportedOf}
+use Rattle.entry.specs.Stored.{mostArrived, lineAt, putArrived, putReport, addLine, keyIs, articleIs, slipLineAt, slipCopiesAt, addSlip}
 use Rattle.entry.specs.declared.line.Mark.{Mark}
-use Rattle.entry.specs.declared.line.Mark.the-variants.{Unmarked, Held, Dropped}
+use Rattle.entry.specs.declared.line.Mark.the-variants.{Held, Dropped}
 use Rattle.entry.specs.declared.line.Line.{Line}
 use Rattle.entry.specs.declared.line.Figures.{Figures}
+use Rattle.entry.specs.declared.report.Message.{Message}
+use Rattle.entry.specs.declared.report.Message.the-variants.{Numbered}
+use Rattle.entry.specs.declared.report.Reported.{Reported}
 use Rattle.book.specs.Lent.{Lent, usedLines, usedSlips, lineRoom, slipRoom, sound, findLine, findSlip, openCopies}
 use Rattle.book.specs.declared.answer.Refused.{Refused}
 use Rattle.book.specs.declared.answer.Refused.the-variants.{Unsound, Unread, NothingToBook, NoCopies, NoReference, LineExists, LinesUsed, NoLine, SlipBooked, SlipDiffers, SlipsUsed, TooManyArrived, NotOnRoster, CeilingPassed}
@@ -138,9 +142,15 @@ noReference Goods s = allOf Blank (fieldBytes Goods 8 s)
 noReference Closing s = false
 noReference Report s = allOf Blank (fieldBytes Report 6 s)
 
--- the mark that a report sets: its field 11 only
+-- what a report says of its line: the mark by its field 11 only, the message number, and the bytes of the expected date
 unfoldable pub markIn : List ℕ → Mark
 markIn s = pick (same (fieldBytes Report 10 s) (bytes "J")) Held Dropped
+
+unfoldable pub messageIn : List ℕ → Message
+messageIn s = Numbered (number (fieldBytes Report 9 s))
+
+unfoldable pub dateIn : List ℕ → List ℕ
+dateIn s = fieldBytes Report 11 s
 
 -- 25, 15: so many copies of the school would be open
 unfoldable pub newLineJudged : Lent → ℕ → ℕ → Verdict
@@ -199,29 +209,25 @@ fitJudged k s roster b =
     (pick (noReference k s) (Refuse NoReference)
     (onRoster k s b (standing roster (schoolIn k s)))))
 
--- a new line: nothing has arrived, no mark
-unfoldable pub newLine : Copies → Line
-newLine n = record { ordered = n; arrived = copies 0; mark = Unmarked }
-
 -- the line that a record of a kind makes of the line at i
 unfoldable pub lineAfter : Kind → List ℕ → Lent → ℕ → Line
 lineAfter Order s b i = newLine (copiesIn Order s)
 lineAfter Goods s b i = withArrivals (copiesIn Goods s) (lineAt (b .lines) i)
 lineAfter Closing s b i = lineAt (b .lines) i
-lineAfter Report s b i = withMark (markIn s) (lineAt (b .lines) i)
+lineAfter Report s b i = withReport (markIn s) (messageIn s) (expectedOf (dateIn s)) (lineAt (b .lines) i)
 
 -- the lent book after an accepted record (RULES 7.2)
 unfoldable pub lentAfter : Kind → List ℕ → Lent → ℕ → Lent
 lentAfter Order s b i =
-    record { lines = addLine (b .lines) i (lineKey Order s ++ articleIn Order s) (lineAfter Order s b i); slips = b .slips; used = set (b .used) 0 (usedLines b + 1) }
+    record { lines = addLine (b .lines) i (lineKey Order s ++ articleIn Order s) (copiesIn Order s); slips = b .slips; used = set (b .used) 0 (usedLines b + 1) }
 lentAfter Goods s b i =
     record {
-      lines = putLine (b .lines) i (lineAfter Goods s b i);
+      lines = putArrived (b .lines) i (lineAfter Goods s b i .arrived);
       slips = addSlip (b .slips) (usedSlips b) (slipKey s) i (copiesIn Goods s);
       used = set (b .used) 1 (usedSlips b + 1);
     }
 lentAfter Closing s b i = b
-lentAfter Report s b i = record { lines = putLine (b .lines) i (lineAfter Report s b i); slips = b .slips; used = b .used }
+lentAfter Report s b i = record { lines = putReport (b .lines) i (markIn s) (messageIn s) (dateIn s); slips = b .slips; used = b .used }
 
 -- what booking says, and the lent book afterwards
 pub record Outcome : Type 0 where
@@ -234,21 +240,24 @@ outcome said b = record { said = said; lent = b }
 abbrev pub noFigures : Figures
 noFigures = record { ordered = copies 0; filled = copies 0; «still_open» = copies 0; «let_go» = copies 0; extra = copies 0 }
 
--- what a refusal says: no figures
-unfoldable pub refusedAs : Refused → Told
-refusedAs r = record { answer = refusedNumber r; place = refusedPlace r; figures = noFigures }
+abbrev pub notReported : Reported
+notReported = record { message = 0; expected = 0; year = 0; month = 0; day = 0 }
 
--- done, with the figures of the line
+-- what a refusal says: no figures, and nothing of a report
+unfoldable pub refusedAs : Refused → Told
+refusedAs r = record { answer = refusedNumber r; place = refusedPlace r; figures = noFigures; reported = notReported }
+
+-- done, with the figures of the line and what its last report said
 unfoldable pub doneAs : Line → Told
-doneAs l = record { answer = 0; place = 0; figures = figuresOf l }
+doneAs l = record { answer = 0; place = 0; figures = figuresOf l; reported = reportedOf l }
 
 -- what is told of a record's line, with whether the articles agreed
 abbrev pub bookedAs : Told → ℕ → Booked
-bookedAs t agreed = record { answer = t .answer; place = t .place; figures = t .figures; agreed = agreed }
+bookedAs t agreed = record { answer = t .answer; place = t .place; figures = t .figures; agreed = agreed; reported = t .reported }
 
 -- the same without it
 abbrev pub toldIn : Booked → Told
-toldIn said = record { answer = said .answer; place = said .place; figures = said .figures }
+toldIn said = record { answer = said .answer; place = said .place; figures = said .figures; reported = said .reported }
 
 -- what booking says of a record that is refused: nothing agreed
 abbrev pub notBooked : Refused → Booked

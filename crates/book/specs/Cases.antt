@@ -1,7 +1,7 @@
 -- Cases of booking on bytes: the desk's eight records, the whole table of cases marked P, unsound books, and calls by key. Each record meets one roster, `schools`.
 use Prim.Native.Nat.{ℕ, _*_}
 use mathlib.Core.List.{List, [], _∷_, _++_}
-use lib.ListN.{replicate, take, set}
+use lib.ListN.{replicate, take}
 use lib.Seq.{slice, sets}
 use Rattle.cells.specs.Bytes.{bytes}
 use Rattle.roster.specs.Cases.{entry}
@@ -10,7 +10,8 @@ use Rattle.record.specs.Samples.{X, Y, Z, put, Call, reads, books}
 use Rattle.record.specs.Edges.{C, fullTable}
 use Rattle.record.specs.declared.answer.Checked.{Checked}
 use Rattle.record.specs.declared.layout.Kind.the-variants.{Order, Goods}
-use Rattle.entry.specs.Stored.{lineWidth, slipWidth, orderedAt, markAt, arrivedAt, slipKeyWidth}
+use Rattle.entry.specs.Report.{noReport}
+use Rattle.entry.specs.Stored.{lineWidth, slipWidth, orderedAt, arrivedAt, slipKeyWidth}
 use Rattle.book.specs.Lent.{Lent}
 use Rattle.book.specs.Booking.{toldIn, lentAfter, book}
 use Rattle.book.specs.Asked.{lineAsked}
@@ -24,10 +25,10 @@ roomy lines slips = record { lines = replicate (lines * lineWidth) 7; slips = re
 abbrev pub schools : List ℕ
 schools = entry "43211     VD" 500 ++ (entry "43210     VD" 500 ++ entry "43212     VD" 500)
 
--- what the desk prints of a record: answer, ordered, filled, open, let go, extra
+-- what the calls give the desk to print of a record: answer, ordered, filled, open, let go, extra, the last message
 abbrev pub printed : Told → List ℕ
 printed t =
-    t .answer ∷ t .figures .ordered .0 ∷ t .figures .filled .0 ∷ t .figures .«still_open» .0 ∷ t .figures .«let_go» .0 ∷ t .figures .extra .0 ∷ []
+    t .answer ∷ t .figures .ordered .0 ∷ t .figures .filled .0 ∷ t .figures .«still_open» .0 ∷ t .figures .«let_go» .0 ∷ t .figures .extra .0 ∷ t .reported .message ∷ []
 
 unfoldable pub desk : Lent → List (List ℕ) → List (List ℕ)
 desk b [] = []
@@ -48,14 +49,14 @@ sample =
 
 unfoldable pub sampleSays : List (List ℕ)
 sampleSays =
-    (0 ∷ 10 ∷ 0 ∷ 10 ∷ 0 ∷ 0 ∷ [])
-    ∷ (0 ∷ 10 ∷ 4 ∷ 6 ∷ 0 ∷ 0 ∷ [])
-    ∷ (17 ∷ 0 ∷ 0 ∷ 0 ∷ 0 ∷ 0 ∷ [])
-    ∷ (0 ∷ 10 ∷ 4 ∷ 0 ∷ 6 ∷ 0 ∷ [])
-    ∷ (0 ∷ 10 ∷ 7 ∷ 0 ∷ 3 ∷ 0 ∷ [])
-    ∷ (0 ∷ 10 ∷ 7 ∷ 3 ∷ 0 ∷ 0 ∷ [])
-    ∷ (0 ∷ 10 ∷ 10 ∷ 0 ∷ 0 ∷ 2 ∷ [])
-    ∷ (18 ∷ 0 ∷ 0 ∷ 0 ∷ 0 ∷ 0 ∷ [])
+    (0 ∷ 10 ∷ 0 ∷ 10 ∷ 0 ∷ 0 ∷ noReport ∷ [])
+    ∷ (0 ∷ 10 ∷ 4 ∷ 6 ∷ 0 ∷ 0 ∷ noReport ∷ [])
+    ∷ (17 ∷ 0 ∷ 0 ∷ 0 ∷ 0 ∷ 0 ∷ 0 ∷ [])
+    ∷ (0 ∷ 10 ∷ 4 ∷ 0 ∷ 6 ∷ 0 ∷ 10 ∷ [])
+    ∷ (0 ∷ 10 ∷ 7 ∷ 0 ∷ 3 ∷ 0 ∷ 10 ∷ [])
+    ∷ (0 ∷ 10 ∷ 7 ∷ 3 ∷ 0 ∷ 0 ∷ 15 ∷ [])
+    ∷ (0 ∷ 10 ∷ 10 ∷ 0 ∷ 0 ∷ 2 ∷ 15 ∷ [])
+    ∷ (18 ∷ 0 ∷ 0 ∷ 0 ∷ 0 ∷ 0 ∷ 0 ∷ [])
     ∷ []
 
 -- an advance notice, then the goods: only the goods are booked; another school with reference A-17; quantity 0; blank references; a closing record
@@ -80,21 +81,21 @@ others =
 
 unfoldable pub othersSay : List (List ℕ)
 othersSay =
-    (0 ∷ 10 ∷ 0 ∷ 10 ∷ 0 ∷ 0 ∷ [])
-    ∷ (13 ∷ 0 ∷ 0 ∷ 0 ∷ 0 ∷ 0 ∷ [])
-    ∷ (0 ∷ 10 ∷ 4 ∷ 6 ∷ 0 ∷ 0 ∷ [])
-    ∷ (0 ∷ 10 ∷ 0 ∷ 10 ∷ 0 ∷ 0 ∷ [])
-    ∷ (0 ∷ 10 ∷ 4 ∷ 6 ∷ 0 ∷ 0 ∷ [])
-    ∷ (0 ∷ 10 ∷ 8 ∷ 2 ∷ 0 ∷ 0 ∷ [])
-    ∷ (16 ∷ 0 ∷ 0 ∷ 0 ∷ 0 ∷ 0 ∷ [])
-    ∷ (14 ∷ 0 ∷ 0 ∷ 0 ∷ 0 ∷ 0 ∷ [])
-    ∷ (11 ∷ 0 ∷ 0 ∷ 0 ∷ 0 ∷ 0 ∷ [])
-    ∷ (11 ∷ 0 ∷ 0 ∷ 0 ∷ 0 ∷ 0 ∷ [])
-    ∷ (13 ∷ 0 ∷ 0 ∷ 0 ∷ 0 ∷ 0 ∷ [])
-    ∷ (12 ∷ 0 ∷ 0 ∷ 0 ∷ 0 ∷ 0 ∷ [])
-    ∷ (12 ∷ 0 ∷ 0 ∷ 0 ∷ 0 ∷ 0 ∷ [])
-    ∷ (12 ∷ 0 ∷ 0 ∷ 0 ∷ 0 ∷ 0 ∷ [])
-    ∷ (13 ∷ 0 ∷ 0 ∷ 0 ∷ 0 ∷ 0 ∷ [])
+    (0 ∷ 10 ∷ 0 ∷ 10 ∷ 0 ∷ 0 ∷ noReport ∷ [])
+    ∷ (13 ∷ 0 ∷ 0 ∷ 0 ∷ 0 ∷ 0 ∷ 0 ∷ [])
+    ∷ (0 ∷ 10 ∷ 4 ∷ 6 ∷ 0 ∷ 0 ∷ noReport ∷ [])
+    ∷ (0 ∷ 10 ∷ 0 ∷ 10 ∷ 0 ∷ 0 ∷ noReport ∷ [])
+    ∷ (0 ∷ 10 ∷ 4 ∷ 6 ∷ 0 ∷ 0 ∷ noReport ∷ [])
+    ∷ (0 ∷ 10 ∷ 8 ∷ 2 ∷ 0 ∷ 0 ∷ noReport ∷ [])
+    ∷ (16 ∷ 0 ∷ 0 ∷ 0 ∷ 0 ∷ 0 ∷ 0 ∷ [])
+    ∷ (14 ∷ 0 ∷ 0 ∷ 0 ∷ 0 ∷ 0 ∷ 0 ∷ [])
+    ∷ (11 ∷ 0 ∷ 0 ∷ 0 ∷ 0 ∷ 0 ∷ 0 ∷ [])
+    ∷ (11 ∷ 0 ∷ 0 ∷ 0 ∷ 0 ∷ 0 ∷ 0 ∷ [])
+    ∷ (13 ∷ 0 ∷ 0 ∷ 0 ∷ 0 ∷ 0 ∷ 0 ∷ [])
+    ∷ (12 ∷ 0 ∷ 0 ∷ 0 ∷ 0 ∷ 0 ∷ 0 ∷ [])
+    ∷ (12 ∷ 0 ∷ 0 ∷ 0 ∷ 0 ∷ 0 ∷ 0 ∷ [])
+    ∷ (12 ∷ 0 ∷ 0 ∷ 0 ∷ 0 ∷ 0 ∷ 0 ∷ [])
+    ∷ (13 ∷ 0 ∷ 0 ∷ 0 ∷ 0 ∷ 0 ∷ 0 ∷ [])
     ∷ []
 
 -- what the calls say of a record of the table of cases marked P
@@ -126,7 +127,7 @@ withUsed u = record { lines = two .lines; slips = two .slips; used = u }
 unfoldable pub unsound : List Lent
 unsound =
     two
-    ∷ withLines (λ l. take 111 l)
+    ∷ withLines (λ l. take 131 l)
     ∷ withLines (λ l. [])
     ∷ withLines (λ l. l ++ replicate (511 * lineWidth) 0)
     ∷ withLines (λ l. l ++ replicate (510 * lineWidth) 0)
@@ -139,8 +140,6 @@ unsound =
     ∷ withLines (λ l. sets l orderedAt (0 ∷ 0 ∷ []))
     ∷ withLines (λ l. sets l orderedAt (15 ∷ 39 ∷ []))
     ∷ withLines (λ l. sets l orderedAt (16 ∷ 39 ∷ []))
-    ∷ withLines (λ l. set l markAt 2)
-    ∷ withLines (λ l. set l markAt 3)
     ∷ withLines (λ l. sets l arrivedAt (127 ∷ 150 ∷ 152 ∷ 0 ∷ []))
     ∷ withLines (λ l. sets l arrivedAt (128 ∷ 150 ∷ 152 ∷ 0 ∷ []))
     ∷ withSlips (λ l. sets l slipKeyWidth (1 ∷ 0 ∷ []))
@@ -151,10 +150,10 @@ answersTo s [] = []
 answersTo s (b ∷ bs) = book s schools b .said .answer ∷ answersTo s bs
 
 unfoldable pub unsoundSays : List ℕ
-unsoundSays = 0 ∷ 20 ∷ 20 ∷ 20 ∷ 0 ∷ 20 ∷ 20 ∷ 20 ∷ 20 ∷ 20 ∷ 20 ∷ 20 ∷ 0 ∷ 20 ∷ 0 ∷ 20 ∷ 0 ∷ 20 ∷ 20 ∷ []
+unsoundSays = 0 ∷ 20 ∷ 20 ∷ 20 ∷ 0 ∷ 20 ∷ 20 ∷ 20 ∷ 20 ∷ 20 ∷ 20 ∷ 20 ∷ 0 ∷ 20 ∷ 0 ∷ 20 ∷ 20 ∷ []
 
 -- the fields of the key of the line that X adds, from a school and its qualifier on
-abbrev keyFrom : List ℕ → List ℕ → List (List ℕ)
+abbrev pub keyFrom : List ℕ → List ℕ → List (List ℕ)
 keyFrom school qualifier =
     school ∷ qualifier ∷ slice 16 26 X ∷ slice 26 28 X ∷ slice 36 46 X ∷ []
 
@@ -169,8 +168,8 @@ asked b =
 
 unfoldable pub askedSay : List (List ℕ)
 askedSay =
-    (0 ∷ 10 ∷ 0 ∷ 10 ∷ 0 ∷ 0 ∷ [])
-    ∷ (16 ∷ 0 ∷ 0 ∷ 0 ∷ 0 ∷ 0 ∷ [])
-    ∷ (16 ∷ 0 ∷ 0 ∷ 0 ∷ 0 ∷ 0 ∷ [])
-    ∷ (20 ∷ 0 ∷ 0 ∷ 0 ∷ 0 ∷ 0 ∷ [])
+    (0 ∷ 10 ∷ 0 ∷ 10 ∷ 0 ∷ 0 ∷ noReport ∷ [])
+    ∷ (16 ∷ 0 ∷ 0 ∷ 0 ∷ 0 ∷ 0 ∷ 0 ∷ [])
+    ∷ (16 ∷ 0 ∷ 0 ∷ 0 ∷ 0 ∷ 0 ∷ 0 ∷ [])
+    ∷ (20 ∷ 0 ∷ 0 ∷ 0 ∷ 0 ∷ 0 ∷ 0 ∷ [])
     ∷ []

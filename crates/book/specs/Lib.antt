@@ -4,3 +4,4 @@ pub mod Asked
 pub mod Cases
 pub mod Pairs
 pub mod Articles
+pub mod Reports

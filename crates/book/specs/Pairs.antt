@@ -11,6 +11,7 @@ use Rattle.roster.specs.Roster.{entryWidth}
 use Rattle.roster.specs.Cases.{entry}
 use Rattle.record.specs.Samples.{X, Y, Z, put, withBytes}
 use Rattle.record.specs.Edges.{times}
+use Rattle.entry.specs.Report.{messageUnknown}
 use Rattle.entry.specs.Stored.{mostArrived, markAt, arrivedAt}
 use Rattle.book.specs.Lent.{Lent}
 use Rattle.book.specs.Booking.{book}
@@ -104,7 +105,7 @@ only ceiling = entry "43210     VD" ceiling
 abbrev pub neighbour : List ℕ
 neighbour = entry "43211     VD" 500
 
--- X for another reference; the book after X, with room for a second line; and that with a mark on X's line
+-- X for another reference; the book after X, with room for a second line; and that with a mark on X's line, of a report whose message is unknown
 abbrev pub other : List ℕ
 other = put 36 "A-18      " X
 
@@ -112,7 +113,7 @@ abbrev pub room : Lent
 room = withX 2 1
 
 abbrev pub marked : ℕ → Lent
-marked m = lineSet markAt (m ∷ []) room
+marked m = lineSet markAt (m ∷ leBytes 2 messageUnknown) room
 
 -- the roster's answers: 20 for its size, 24 between 12 and the book, 25 between 14 and 15
 unfoldable pub rosterTrials : List Trial

@@ -1,8 +1,9 @@
-// What booking and the call by key answer: why not, by the answer numbers of document 01, or the line's figures.
+// What booking and the call by key answer: why not, by the answer numbers of document 01, or the line's figures and what its last report said.
 ghost use mathlib.Core.Path.{_≡_};
 ghost use Rattle.book.specs.Booking.{refusedNumber, refusedPlace, refusedAs, doneAs, bookedAs, notBooked};
 use entry::line::Figures;
 use entry::line::Line;
+use entry::report::Reported;
 use record::answer::Refusal;
 use record::answer::refusal_number;
 use record::answer::refusal_place;
@@ -38,12 +39,13 @@ pub enum Verdict {
     Fits(usize),
 }
 
-// What is told of a line: the answer number and place of document 01, and its figures.
+// What is told of a line: the answer number and place of document 01, its figures, and what its last report said.
 #[repr(C)]
 pub struct Told {
     pub answer: u64,
     pub place: usize,
     pub figures: Figures,
+    pub reported: Reported,
 }
 
 // What a booking tells of the articles.
@@ -58,6 +60,7 @@ pub struct Booked {
     pub place: usize,
     pub figures: Figures,
     pub agreed: u64,
+    pub reported: Reported,
 }
 
 pub fn refused_number(r: Refused) -> u64
@@ -117,10 +120,17 @@ pub fn refuse(r: Refused) -> Told
             let_go: Copies(0),
             extra: Copies(0),
         },
+        reported: Reported {
+            message: 0,
+            expected: 0,
+            year: 0,
+            month: 0,
+            day: 0,
+        },
     }
 }
 
-// Done, with the figures of the line.
+// Done, with the figures of the line and what its last report said.
 pub fn done(l: Line) -> Told
     ensures { λ t. ⌜ t ≡ doneAs l ⌝ }
 {
@@ -128,6 +138,7 @@ pub fn done(l: Line) -> Told
         answer: 0,
         place: 0,
         figures: l.figures(),
+        reported: l.reported(),
     }
 }
 
@@ -136,11 +147,13 @@ pub fn with_agreed(t: Told, agreed: u64) -> Booked
     ensures { λ b. ⌜ b ≡ bookedAs t agreed ⌝ }
 {
     let figures = t.figures;
+    let reported = t.reported;
     Booked {
         answer: t.answer,
         place: t.place,
         figures,
         agreed,
+        reported,
     }
 }
 

@@ -1,4 +1,2 @@
-// The book in lent bytes: its answers, search and soundness.
+// What is told of the lent book: its answers.
 pub mod answer;
-pub mod keyed;
-pub mod seek;

@@ -10,9 +10,9 @@ use lib.Seq.{slice}
 use Rattle.cells.specs.Bytes.{same, joined}
 use Rattle.cells.specs.Little.{leBytes}
 use Rattle.entry.specs.Stored.{lineWidth, keyWidth, keyAt, keyIs}
 use Rattle.book.specs.Asked.{keyWidths, areWide}
-use Rattle.book.proofs.Wide.{Wide, before, key-wide, field-in, five}
-use Rattle.book.proofs.Compared.{told-apart, partyAt, key-fields}
+use Rattle.finding.proofs.Wide.{Wide, before, key-wide, field-in, five}
+use Rattle.finding.proofs.Compared.{told-apart, partyAt, key-fields}
 
 -- what lies behind the reference at an index
 abbrev pub fieldOf : List (RefT (List ℕ)) → ℕ → List ℕ

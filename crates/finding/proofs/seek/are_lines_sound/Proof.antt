@@ -1,4 +1,4 @@
--- `book::seek::are_lines_sound` meets its contract. The invariant: the places that are left give the same result as all of them.
+-- `finding::seek::are_lines_sound` meets its contract. The invariant: the places that are left give the same result as all of them.
 use mathlib.Core.Path.{_≡_, _∙_, sym}
 use Prim.Native.Nat.{_≤_, _-_}
 use native.Mathlib.Omega.{arith}
@@ -7,8 +7,8 @@ use Rattle.cells.specs.Search.{allFrom}
 use Rattle.cells.proofs.Bools.{is-not, is-so}
 use Rattle.entry.specs.Stored.{lineSound}
 use Rattle.cells.proofs.Searches.{all-here, all-next, all-end}
-use Rattle.book.proofs.seek.are_lines_sound.Statement.{statement}
-use Rattle.book.proofs.seek.are_lines_sound.Tie as tie
+use Rattle.finding.proofs.seek.are_lines_sound.Statement.{statement}
+use Rattle.finding.proofs.seek.are_lines_sound.Tie as tie
 
 abbrev Inv-loop : tie.InvT-loop
 Inv-loop lines count i₀ i = (i ≤ count) × (allFrom (lineSound lines) count 0 ≡ allFrom (lineSound lines) (count - i) i)

@@ -13,7 +13,7 @@ use Rattle.cells.proofs.Lists.{other-part, same-parts}
 use Rattle.cells.proofs.Numbers.{words-same}
 use Rattle.cells.proofs.Within.{part-within}
 use Rattle.entry.specs.Stored.{lineWidth, slipWidth, slipKeyWidth, keyAt, keyIs, slipKeyAt, slipIs}
-use Rattle.book.proofs.Wide.{Wide}
+use Rattle.finding.proofs.Wide.{Wide}
 
 -- a part of a list in which eight bytes are others than in a key is not the key
 pub told-apart : (s key : List ℕ) (at w place x y : ℕ) → place + 8 ≤ w → leBytes 8 x ≡ slice (at + place) (at + place + 8) s → x < 256 ^ 8

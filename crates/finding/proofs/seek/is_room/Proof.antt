@@ -1,9 +1,9 @@
--- `book::seek::is_room` meets its contract.
+-- `finding::seek::is_room` meets its contract.
 use mathlib.Core.Path.{refl}
 use Rattle.book.specs.Lent.{roomSound}
 use borrow.Author.Needs.{needs}
-use Rattle.book.proofs.seek.is_room.Statement.{statement}
-use Rattle.book.proofs.seek.is_room.Tie as tie
+use Rattle.finding.proofs.seek.is_room.Statement.{statement}
+use Rattle.finding.proofs.seek.is_room.Tie as tie
 
 rem-result : tie.Need-rem-result
 rem-result c = search needs

@@ -1,4 +1,4 @@
--- `book::keyed::field_is` meets its contract: the part of the line and the field are compared in place.
+-- `finding::keyed::field_is` meets its contract: the part of the line and the field are compared in place.
 use mathlib.Core.Path.{_∙_, ap₂}
 use Prim.Native.Nat.{_+_}
 use native.Mathlib.Omega.{arith}
@@ -6,8 +6,8 @@ use lib.Seq.{take-all}
 use Rattle.cells.specs.Bytes.{same}
 use Rattle.cells.proofs.Parts.{part-is}
 use borrow.Author.Needs.{needs}
-use Rattle.book.proofs.keyed.field_is.Statement.{statement}
-use Rattle.book.proofs.keyed.field_is.Tie as tie
+use Rattle.finding.proofs.keyed.field_is.Statement.{statement}
+use Rattle.finding.proofs.keyed.field_is.Tie as tie
 
 add-end : tie.Need-add-end
 add-end c = search needs

@@ -1,11 +1,11 @@
--- `book::keyed::party_is` meets its contract: the address, then the qualifier.
+-- `finding::keyed::party_is` meets its contract: the address, then the qualifier.
 use mathlib.Core.Path.{_≡_, _∙_, refl}
 use Prim.Native.Nat.{_+_}
 use native.Mathlib.Omega.{arith}
 use Rattle.cells.proofs.Bools.{is-not, is-so}
 use borrow.Author.Needs.{needs}
-use Rattle.book.proofs.keyed.party_is.Statement.{statement}
-use Rattle.book.proofs.keyed.party_is.Tie as tie
+use Rattle.finding.proofs.keyed.party_is.Statement.{statement}
+use Rattle.finding.proofs.keyed.party_is.Tie as tie
 
 field-is-requires : tie.Need-field-is-requires
 field-is-requires c κs = search needs

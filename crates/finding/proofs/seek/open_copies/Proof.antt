@@ -1,4 +1,4 @@
--- `book::seek::open_copies` meets its contract. The invariant: the sum so far and that of the places that are left give the whole sum.
+-- `finding::seek::open_copies` meets its contract. The invariant: the sum so far and that of the places that are left give the whole sum.
 use mathlib.Core.Path.{_≡_}
 use Prim.Native.Nat.{_+_, _*_, _≤_, _-_}
 use native.Mathlib.Omega.{arith}
@@ -7,8 +7,8 @@ use Rattle.cells.specs.Search.{sumFrom}
 use Rattle.cells.proofs.Searches.{all-at, sum-next, sum-end}
 use Rattle.entry.specs.Stored.{mostCopies, openAt, lineSound}
 use Rattle.entry.proofs.Sound.{open-bounded}
-use Rattle.book.proofs.seek.open_copies.Statement.{statement}
-use Rattle.book.proofs.seek.open_copies.Tie as tie
+use Rattle.finding.proofs.seek.open_copies.Statement.{statement}
+use Rattle.finding.proofs.seek.open_copies.Tie as tie
 
 abbrev Inv-loop : tie.InvT-loop
 Inv-loop lines count school sum₀ i₀ sum i =

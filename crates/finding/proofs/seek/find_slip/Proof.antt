@@ -1,4 +1,4 @@
--- `book::seek::find_slip` meets its contract. The invariant: the places that are left give the same result as all of them.
+-- `finding::seek::find_slip` meets its contract. The invariant: the places that are left give the same result as all of them.
 use mathlib.Core.Path.{_≡_, _∙_, sym}
 use Prim.Native.Nat.{_≤_, _-_}
 use native.Mathlib.Omega.{arith}
@@ -6,9 +6,9 @@ use native.Mathlib.Nat.{sub-zero}
 use Rattle.cells.specs.Search.{firstFrom}
 use Rattle.entry.specs.Stored.{slipIs}
 use Rattle.cells.proofs.Searches.{first-here, first-next, first-end}
-use Rattle.book.proofs.Compared.{slip-other}
-use Rattle.book.proofs.seek.find_slip.Statement.{statement}
-use Rattle.book.proofs.seek.find_slip.Tie as tie
+use Rattle.finding.proofs.Compared.{slip-other}
+use Rattle.finding.proofs.seek.find_slip.Statement.{statement}
+use Rattle.finding.proofs.seek.find_slip.Tie as tie
 
 abbrev Inv-loop : tie.InvT-loop
 Inv-loop slips count key told j₀ j = (j ≤ count) × (firstFrom (slipIs slips key) count 0 ≡ firstFrom (slipIs slips key) (count - j) j)

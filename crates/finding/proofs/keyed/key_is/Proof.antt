@@ -1,11 +1,11 @@
--- `book::keyed::key_is` meets its contract: the school, the supplier, then the reference.
+-- `finding::keyed::key_is` meets its contract: the school, the supplier, then the reference.
 use mathlib.Core.Path.{_∙_, refl, sym}
 use native.Mathlib.Omega.{arith}
 use Rattle.cells.proofs.Bools.{is-not, is-so}
-use Rattle.book.proofs.Given.{given-wide, given-key}
+use Rattle.finding.proofs.Given.{given-wide, given-key}
 use borrow.Author.Needs.{needs}
-use Rattle.book.proofs.keyed.key_is.Statement.{statement}
-use Rattle.book.proofs.keyed.key_is.Tie as tie
+use Rattle.finding.proofs.keyed.key_is.Statement.{statement}
+use Rattle.finding.proofs.keyed.key_is.Tie as tie
 
 mul-at : tie.Need-mul-at
 mul-at c = search needs

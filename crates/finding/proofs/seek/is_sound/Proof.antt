@@ -1,17 +1,18 @@
--- `book::seek::is_sound` meets its contract, test by test.
+-- `finding::seek::is_sound` meets its contract, test by test.
 use mathlib.Core.Path.{_≡_, ap₂}
 use mathlib.Core.Bool.{Bool, true, _&&_}
 use borrow.Author.Tests.{le-leb, lt-leb}
 use lib.ListN.{length}
 use denote.Ref.{now}
 use Rattle.cells.proofs.Bools.{is-not, is-so}
-use Rattle.book.specs.Lent.{roomSound, sound, usedLines, usedSlips, lineRoom, slipRoom, roomsSound}
+use Rattle.entry.specs.Stored.{lineWidth, slipWidth}
+use Rattle.book.specs.Lent.{mostLines, mostSlips, roomSound, sound, usedLines, usedSlips, lineRoom, slipRoom, roomsSound}
 use borrow.Author.Needs.{needs}
-use Rattle.book.proofs.seek.is_sound.Statement.{statement}
-use Rattle.book.proofs.seek.is_sound.Tie as tie
+use Rattle.finding.proofs.seek.is_sound.Statement.{statement}
+use Rattle.finding.proofs.seek.is_sound.Tie as tie
 
 -- the two rooms are of the right sizes
-rooms : (c : tie.Else1) → roomSound 56 512 (length (now (c .before .before .before .before .before .args .lines))) && roomSound 50 1024 (length (now (c .before .before .before .before .before .args .slips))) ≡ true
+rooms : (c : tie.Else1) → roomSound lineWidth mostLines (length (now (c .before .before .before .before .before .args .lines))) && roomSound slipWidth mostSlips (length (now (c .before .before .before .before .before .args .slips))) ≡ true
 rooms c = is-so (ap₂ (λ (a b : Bool). a && b) (c .before .before .is-room .ensures) (c .before .is-room2 .ensures)) (c .if1 .left)
 
 is-room-requires : tie.Need-is-room-requires

@@ -16,7 +16,7 @@ use entry::key::REFERENCE_AT;
 use entry::key::REFERENCE_FIELD;
 use entry::key::REFERENCE_WIDTH;
 use entry::key::SECOND_PARTY_AT;
-use entry::stored::LINE_WIDTH;
+use stored::LINE_WIDTH;
 
 // Whether a field of a width that the caller knows stands at a place.
 fn field_is(lines: &[u8], at: usize, width: usize, field: &[u8]) -> bool

@@ -1,4 +1,4 @@
--- `book::seek::find_line` meets its contract. The invariant: the places that are left give the same result as all of them.
+-- `finding::seek::find_line` meets its contract. The invariant: the places that are left give the same result as all of them.
 use mathlib.Core.Path.{_≡_, _∙_, sym}
 use mathlib.Core.List.{map}
 use Prim.Native.Nat.{_≤_, _-_}
@@ -9,10 +9,10 @@ use Rattle.cells.specs.Bytes.{joined}
 use Rattle.cells.specs.Search.{firstFrom}
 use Rattle.entry.specs.Stored.{keyIs}
 use Rattle.cells.proofs.Searches.{first-here, first-next, first-end}
-use Rattle.book.proofs.Given.{given-wide, field-other}
+use Rattle.finding.proofs.Given.{given-wide, field-other}
 use borrow.Author.Needs.{needs}
-use Rattle.book.proofs.seek.find_line.Statement.{statement}
-use Rattle.book.proofs.seek.find_line.Tie as tie
+use Rattle.finding.proofs.seek.find_line.Statement.{statement}
+use Rattle.finding.proofs.seek.find_line.Tie as tie
 
 abbrev Inv-loop : tie.InvT-loop
 Inv-loop lines count t3 key school reference i₀ i = (i ≤ count) × (firstFrom (keyIs lines (joined (map now t3))) count 0 ≡ firstFrom (keyIs lines (joined (map now t3))) (count - i) i)

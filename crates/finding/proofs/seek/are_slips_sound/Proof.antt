@@ -1,4 +1,4 @@
--- `book::seek::are_slips_sound` meets its contract. The invariant: the places that are left give the same result as all of them.
+-- `finding::seek::are_slips_sound` meets its contract. The invariant: the places that are left give the same result as all of them.
 use mathlib.Core.Path.{_≡_, _∙_, sym}
 use mathlib.Core.Bool.{true, false}
 use mathlib.Core.List.{List}
@@ -9,8 +9,8 @@ use borrow.Author.Tests.{lt-ltb, le-ltb}
 use Rattle.cells.specs.Search.{allFrom}
 use Rattle.entry.specs.Stored.{slipSound, slipLineAt}
 use Rattle.cells.proofs.Searches.{all-here, all-next, all-end}
-use Rattle.book.proofs.seek.are_slips_sound.Statement.{statement}
-use Rattle.book.proofs.seek.are_slips_sound.Tie as tie
+use Rattle.finding.proofs.seek.are_slips_sound.Statement.{statement}
+use Rattle.finding.proofs.seek.are_slips_sound.Tie as tie
 
 abbrev Inv-loop : tie.InvT-loop
 Inv-loop slips count lines j₀ j = (j ≤ count) × (allFrom (slipSound lines slips) count 0 ≡ allFrom (slipSound lines slips) (count - j) j)
