@@ -9,14 +9,14 @@ use book::answer::Refused;
 use book::answer::Told;
 use book::answer::done;
 use book::answer::refuse;
-use book::seek::find_line;
-use book::seek::is_sound;
 use cells::search::Found;
 use entry::key::ADDRESS_WIDTH;
 use entry::key::KEY_FIELDS;
 use entry::key::QUALIFIER_WIDTH;
 use entry::key::REFERENCE_WIDTH;
-use entry::stored::read_line;
+use finding::seek::find_line;
+use finding::seek::is_sound;
+use stored::read_line;
 
 // Whether each field has its length.
 fn are_wide(

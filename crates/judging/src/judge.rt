@@ -16,19 +16,13 @@ use crate::keys::report_key;
 use crate::keys::slip_key;
 use book::answer::Refused;
 use book::answer::Verdict;
-use book::keyed::key_is;
-use book::seek::find_line;
-use book::seek::find_slip;
-use book::seek::open_copies;
 use cells::part;
 use cells::search::Found;
 use entry::key::KEY_FIELDS;
-use entry::stored::LINE_WIDTH;
-use entry::stored::MOST_ARRIVED;
-use entry::stored::SLIP_WIDTH;
-use entry::stored::read_line;
-use entry::stored::slip_copies;
-use entry::stored::slip_line;
+use finding::keyed::key_is;
+use finding::seek::find_line;
+use finding::seek::find_slip;
+use finding::seek::open_copies;
 use record::layout::Kind;
 use record::places::ARTICLE;
 use record::places::ORDER_ARTICLE;
@@ -51,6 +45,12 @@ use rules::amount::Copies;
 use rules::amount::copies_of;
 use rules::class::Class;
 use rules::class::all_of;
+use stored::LINE_WIDTH;
+use stored::MOST_ARRIVED;
+use stored::SLIP_WIDTH;
+use stored::read_line;
+use stored::slip_copies;
+use stored::slip_line;
 
 // 25, 15, of an order of so many copies for a school with a ceiling.
 fn judge_room(

@@ -31,8 +31,10 @@ with-arrivals-requires c κs =
     let copies = goods-copies (start .args .s .now) (number .copies-of .ensures) (number .before .part .ensures) in
     rw (c .read-line .ensures, copies) (omega (arith, start .pre .4))
 
-write-line-requires : tie.Need-write-line-requires
-write-line-requires c κs = search needs
+write-arrived-requires : tie.Need-write-arrived-requires
+write-arrived-requires c κs =
+    let start = c .before .before .before .before .before .before .before .before .before .before .before .before .before in
+    start .pre .1
 
 element-copy-out-j : tie.Need-element-copy-out-j
 element-copy-out-j c = search needs
@@ -42,12 +44,12 @@ slip-key-requires c κs = search needs
 
 write-slip-requires : tie.Need-write-slip-requires
 write-slip-requires c κs =
-    let start = c .before .before .before .before .before .before .before .before .before .before .before .before .before .before .before .before .before .before in
+    let start = c .before .before .before .before .before .before .before .before .before .before .before .before .before .before .before .before .before .before .before in
     (rw (c .slip-key .ensures) (slip-key-long _ (start .pre .0)), start .pre .2)
 
 add-used : tie.Need-add-used
 add-used c =
-    let start = c .before .before .before .before .before .before .before .before .before .before .before .before .before .before .before .before .before .before .before .before .before in
+    let start = c .before .before .before .before .before .before .before .before .before .before .before .before .before .before .before .before .before .before .before .before .before .before in
     record { fits = omega (arith, start .pre .3) }
 
 element-write-used : tie.Need-element-write-used
@@ -70,13 +72,13 @@ returns c =
     let told = c .before in
     let slip = told .before .before .before in
     let write = slip .before .before .before .before .before .before in
-    let line = write .before .before in
+    let line = write .before .before .before in
     let read = line .before in
     let named = read .before .before in
     let number = named .before .before .before in
     let s = number .before .before .before .before .before .args .s .now in
     let copies = goods-copies s (number .copies-of .ensures) (number .before .part .ensures) in
-    rw (c .with-agreed .ensures, told .done .ensures, slip .write-slip .ensures, slip .before .slip-key .ensures, write .write-line .ensures, line .with-arrivals .ensures, read .read-line .ensures, copies, named .agreed .ensures, named .before .part2 .ensures, ← goods-article-is s) (goods-entered _ _ _ _ _)
+    rw (c .with-agreed .ensures, told .done .ensures, slip .write-slip .ensures, slip .before .slip-key .ensures, write .write-arrived .ensures, line .with-arrivals .ensures, read .read-line .ensures, copies, named .agreed .ensures, named .before .part2 .ensures, ← goods-article-is s) (goods-entered _ _ _ _ _)
 
 pub enter-goods-spec : {M : Type 1} → statement M
 enter-goods-spec =
@@ -88,7 +90,7 @@ enter-goods-spec =
     agreed-requires
     read-line-requires
     with-arrivals-requires
-    write-line-requires
+    write-arrived-requires
     element-copy-out-j
     slip-key-requires
     write-slip-requires

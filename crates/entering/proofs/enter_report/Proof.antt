@@ -1,6 +1,6 @@
 -- `entering::enter_report` meets its contract.
 use Rattle.judging.proofs.Named.{report-article-is}
-use Rattle.entering.proofs.Entered.{report-entered}
+use Rattle.entering.proofs.Entered.{date-is, date-long, report-entered}
 use borrow.Author.Needs.{needs}
 use Rattle.entering.proofs.enter_report.Statement.{statement}
 use Rattle.entering.proofs.enter_report.Tie as tie
@@ -11,17 +11,29 @@ part-requires c κs = search needs
 agreed-requires : tie.Need-agreed-requires
 agreed-requires c κs = search needs
 
-read-line-requires : tie.Need-read-line-requires
-read-line-requires c κs = search needs
-
 mark-in-requires : tie.Need-mark-in-requires
 mark-in-requires c κs = search needs
 
-with-mark-requires : tie.Need-with-mark-requires
-with-mark-requires c κs = search needs
+message-in-requires : tie.Need-message-in-requires
+message-in-requires c κs = search needs
 
-write-line-requires : tie.Need-write-line-requires
-write-line-requires c κs = search needs
+part-requires-2 : tie.Need-part-requires-2
+part-requires-2 c κs = search needs
+
+read-line-requires : tie.Need-read-line-requires
+read-line-requires c κs = search needs
+
+expected-of-requires : tie.Need-expected-of-requires
+expected-of-requires c κs = search needs
+
+with-report-requires : tie.Need-with-report-requires
+with-report-requires c κs = search needs
+
+write-report-requires : tie.Need-write-report-requires
+write-report-requires c κs =
+    let part = c .before .before .before .before .before in
+    let start = part .before .before .before .before .before .before .before .before .before in
+    (rw (part .part2 .ensures) (date-long (start .args .s .now) (start .pre .0)), start .pre .1)
 
 done-requires : tie.Need-done-requires
 done-requires c κs = search needs
@@ -37,9 +49,13 @@ returns c =
     let told = c .before in
     let write = told .before .before .before in
     let line = write .before .before in
-    let read = line .before .before in
-    let named = read .before .before in
-    rw (c .with-agreed .ensures, told .done .ensures, write .write-line .ensures, line .with-mark .ensures, line .before .mark-in .ensures, read .read-line .ensures, named .agreed .ensures, named .before .part .ensures, ← report-article-is _) (report-entered _ _ _ _ _)
+    let expected = line .before in
+    let read = expected .before in
+    let date = read .before .before in
+    let message = date .before in
+    let mark = message .before in
+    let named = mark .before in
+    rw (c .with-agreed .ensures, told .done .ensures, write .write-report .ensures, line .with-report .ensures, expected .expected-of .ensures, read .read-line .ensures, date .part2 .ensures, ← date-is _, message .message-in .ensures, mark .mark-in .ensures, named .agreed .ensures, named .before .part .ensures, ← report-article-is _) (report-entered _ _ _ _ _)
 
 pub enter-report-spec : {M : Type 1} → statement M
 enter-report-spec =
@@ -47,10 +63,13 @@ enter-report-spec =
     (tie.spec
     part-requires
     agreed-requires
-    read-line-requires
     mark-in-requires
-    with-mark-requires
-    write-line-requires
+    message-in-requires
+    part-requires-2
+    read-line-requires
+    expected-of-requires
+    with-report-requires
+    write-report-requires
     done-requires
     with-agreed-requires
     same-length

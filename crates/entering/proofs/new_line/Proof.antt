@@ -1,6 +1,6 @@
 -- `entering::new_line` meets its contract.
 use mathlib.Core.Path.{refl}
-use Rattle.book.specs.Booking.{newLine}
+use Rattle.entry.specs.Line.{newLine}
 use Rattle.entering.proofs.new_line.Statement.{statement}
 use Rattle.entering.proofs.new_line.Tie as tie
 
