@@ -15,22 +15,21 @@ use Rattle.record.specs.Values.{fieldBytes}
 use Rattle.record.specs.declared.layout.Kind.{Kind}
 use Rattle.record.specs.declared.layout.Kind.the-variants.{Order, Goods, Closing, Report}
 use Rattle.reader.proofs.Fitting.{Fitting, fitting}
-use Rattle.entry.specs.Line.{withMark, withArrivals}
-use Rattle.entry.specs.Stored.{keyWidth, orderedAt, slipKeyWidth, mostCopies, mostArrived, lineAt, putLine, keyAt, articleAt, keyIs, slipLineAt, slipCopiesAt}
-use Rattle.entry.specs.declared.line.Mark.{Mark}
-use Rattle.entry.specs.declared.line.Line.{Line as Stored}
-use Rattle.entry.proofs.Sound.{Bounded, sound-bounded}
-use Rattle.entry.proofs.Kept.{put-key}
+use Rattle.rules.specs.Values.{expectedOf}
+use Rattle.entry.specs.Line.{newLine, withReport, withArrivals}
+use Rattle.entry.specs.Stored.{keyWidth, orderedAt, slipKeyWidth, mostCopies, mostArrived, lineAt, putArrived, putReport, keyIs, lineSound, slipLineAt, slipCopiesAt}
+use Rattle.entry.proofs.Sound.{arrived-sound, reported-sound}
+use Rattle.entry.proofs.Kept.{Changed, same-key, arrived-changed, arrived-date, arrived-back, report-changed, report-date as date-back, report-back}
 use Rattle.roster.specs.Roster.{standing}
 use Rattle.roster.specs.declared.Standing.{Standing}
 use Rattle.roster.specs.declared.Standing.the-variants.{On, Off}
-use Rattle.ledger.specs.Book.{Key, schoolOf, Hold, Line, Slip}
+use Rattle.ledger.specs.Book.{Key, schoolOf, Report as Telling, Line, Slip}
 use Rattle.ledger.specs.Booking.{Fit, order as ordering, goods as arriving, report as telling, done, judge, arrive, tell, changeLine, enter}
 use Rattle.book.specs.Lent.{Lent, usedLines, usedSlips, lineRoom, slipRoom, findLine, findSlip, openCopies}
-use Rattle.book.specs.Booking.{lineKey, articleIn, slipKey, schoolIn, copiesIn, markIn, nothingToBook, noCopies, noReference, newLineJudged, orderJudged, slipJudged, arrivalJudged, goodsJudged, deliveryJudged, reportJudged, bookJudged, onRoster, fitJudged, newLine, lineAfter, lentAfter}
+use Rattle.book.specs.Booking.{lineKey, articleIn, slipKey, schoolIn, copiesIn, markIn, messageIn, dateIn, nothingToBook, noCopies, noReference, newLineJudged, orderJudged, slipJudged, arrivalJudged, goodsJudged, deliveryJudged, reportJudged, bookJudged, onRoster, fitJudged, lineAfter, lentAfter}
 use Rattle.balance.specs.Met.{Met}
 use Rattle.balance.specs.Calls.{bookCall}
-use Rattle.balance.specs.Told.{reportOf, lineTold, told, roomsOf, holdOf, ceilingIn, fitAs, fitKind, fitOf}
+use Rattle.balance.specs.Told.{knownNumber, reportOf, lineTold, told, roomsOf, holdOf, ceilingIn, fitAs, fitKind, fitOf}
 use Rattle.cells.specs.declared.search.Found.{Found}
 use Rattle.cells.specs.declared.search.Found.the-variants.{At, Nothing}
 use Rattle.book.specs.declared.answer.Refused.{Refused}
@@ -40,9 +39,9 @@ use Rattle.book.specs.declared.answer.Verdict.the-variants.{Refuse, Fits}
 use Rattle.book.proofs.Sounds.{sound-so}
 use Rattle.balance.proofs.Listings.{change-listed}
 use Rattle.balance.proofs.Soundness.{Kept}
-use Rattle.book.proofs.Fields.{order-key, order-named, slip-key-width, order-copies, goods-copies}
+use Rattle.book.proofs.Fields.{order-key, order-named, slip-key-width, order-copies, goods-copies, report-date, report-small, report-number, report-goes}
 use Rattle.balance.proofs.Accepted.{Accepts}
-use Rattle.balance.proofs.Entered.{lineOf, withLine, put-here, put-other, put-slips, put-rooms, put-kept, moreLine, add-lines, add-slips, add-rooms, add-kept, moreSlip, slip-lines, slip-slips, slip-rooms, slip-kept}
+use Rattle.balance.proofs.Entered.{lineOf, at, withLines, put-here, put-other, put-slips, put-rooms, put-kept, moreLine, add-lines, add-slips, add-rooms, add-kept, moreSlip, slip-lines, slip-slips, slip-rooms, slip-kept}
 use Rattle.balance.proofs.Found.{key-told, line-used, goods-passes, report-passes}
 use Rattle.balance.proofs.Keys.{school-heads}
 use Rattle.balance.proofs.Opens.{order-passes}
@@ -136,103 +135,119 @@ pub record Follows (b : Lent) (r : Fit) (c : Lent) : Type 0 where
   pub rooms : roomsOf c ≡ roomsOf b
 
 -- the line with a key changed in the bytes is the first with this key changed in the told book
-module _ (b : Lent) (key : Key) (i : ℕ) (l : Stored) (h : Line → Line) (k : Kept b) (f : findLine b key ≡ At i) (bounded : Bounded l) where
-  line-changed : lineOf (keyAt (b .lines) i) (articleAt (b .lines) i) l ≡ h (lineTold (b .lines) i) → told (withLine b i l) .lines ≡ changeLine key h (told b .lines)
+module _ (b : Lent) (key : Key) (i : ℕ) (ls : List ℕ) (h : Line → Line) (k : Kept b) (f : findLine b key ≡ At i) (c : Changed ls (b .lines) i) where
+  line-changed : lineTold ls i ≡ h (lineTold (b .lines) i) → told (withLines b ls) .lines ≡ changeLine key h (told b .lines)
   unfolding told changeLine usedLines findLine
   line-changed e =
-      let used = line-used b key i f .0 in
       change-listed (λ (l : Line). same key (l .key)) (keyIs (b .lines) key) (lineTold (b .lines)) (key-told b key) h
-      (lineTold (putLine (b .lines) i l)) (usedLines b) 0 i f (put-here b i l k used bounded ∙ e) (put-other b i l k used bounded)
+      (lineTold ls) (usedLines b) 0 i f e (put-other b i ls c k)
 
 -- an order is entered
 module _ (b : Lent) (key article : List ℕ) (copies : Copies) (k : Kept b) (wide : length key ≡ keyWidth) (whole : length (key ++ article) ≡ orderedAt) (least : 1 ≤ copies .0) (most : copies .0 ≤ mostCopies) where
   order-entered : (ceiling : ℕ) → findLine b key ≡ Nothing → openCopies b (schoolOf key) + copies .0 ≤ ceiling → usedLines b < lineRoom b
-      → Follows b (ordering key (record { copies = copies .0; article = article }) ceiling) (moreLine b (key ++ article) (newLine copies))
+      → Follows b (ordering key (record { copies = copies .0; article = article }) ceiling) (moreLine b (key ++ article) copies)
   unfolding enter newLine lineOf reportOf
   order-entered ceiling e below room =
-      let bounded : Bounded (newLine copies) = record { least = least; most = most; sum = omega arith } in
       record {
         allowed = order-passes b key (record { copies = copies .0; article = article }) ceiling e below room;
         tells = λ x. record {
-          lines = add-lines b key article (newLine copies) k room wide whole bounded x;
-          slips = add-slips b key article (newLine copies) k room wide whole bounded x;
+          lines = add-lines b key article copies k room wide whole least most x;
+          slips = add-slips b key article copies k room wide whole least most x;
         };
-        kept = add-kept b key article (newLine copies) k room wide whole bounded;
-        rooms = add-rooms b key article (newLine copies) k room wide whole bounded;
+        kept = add-kept b key article copies k room wide whole least most;
+        rooms = add-rooms b key article copies k room wide whole least most;
       }
 
--- a used line is within its bounds, and stays so with copies that the limit lets pass, and with any mark
-module _ (b : Lent) (k : Kept b) (i : ℕ) (used : i < usedLines b) where
-  bounds : Bounded (lineAt (b .lines) i)
-  bounds = sound-bounded (b .lines) i (sound-so b (k .is-sound) .line-sound i used)
+-- a used line with copies that the limit lets pass: it is read back so, told as the told line with them, and sound
+module _ (b : Lent) (k : Kept b) (i : ℕ) (used : i < usedLines b) (copies : Copies) (most : lineAt (b .lines) i .arrived .0 + copies .0 ≤ mostArrived) where
+  abbrev pub linesArrived : List ℕ
+  linesArrived = putArrived (b .lines) i (withArrivals copies (lineAt (b .lines) i) .arrived)
 
-  pub arrivals-bounded : (copies : Copies) → lineAt (b .lines) i .arrived .0 + copies .0 ≤ mostArrived → Bounded (withArrivals copies (lineAt (b .lines) i))
+  pub line-arrived : lineAt linesArrived i ≡ withArrivals copies (lineAt (b .lines) i)
   unfolding withArrivals
-  arrivals-bounded copies h = record { least = bounds .least; most = bounds .most; sum = h }
+  line-arrived = arrived-back (b .lines) i (withArrivals copies (lineAt (b .lines) i) .arrived) (at b i k used) (omega arith)
 
-  pub mark-bounded : (m : Mark) → Bounded (withMark m (lineAt (b .lines) i))
-  unfolding withMark
-  mark-bounded m = record { least = bounds .least; most = bounds .most; sum = bounds .sum }
-
--- the changed line is told as the told line changed
-module _ (lines : List ℕ) (i : ℕ) where
-  pub line-arrives : (copies : Copies) → lineOf (keyAt lines i) (articleAt lines i) (withArrivals copies (lineAt lines i)) ≡ arrive (copies .0) (lineTold lines i)
+  arrived-told : lineTold linesArrived i ≡ arrive (copies .0) (lineTold (b .lines) i)
   unfolding lineOf withArrivals arrive lineTold
-  line-arrives copies = refl
+  arrived-told =
+      put-here b i linesArrived (arrived-changed (b .lines) i _) k
+      ∙ rw (line-arrived, arrived-date (b .lines) i (withArrivals copies (lineAt (b .lines) i) .arrived)) refl
 
-  pub line-reported : (m : Mark) (h : Hold) → reportOf m ≡ some (record { hold = h })
-      → lineOf (keyAt lines i) (articleAt lines i) (withMark m (lineAt lines i)) ≡ tell (record { hold = h }) (lineTold lines i)
-  unfolding lineOf withMark tell lineTold
-  line-reported m h e = rw e
+  pub line-arrived-sound : lineSound linesArrived i ≡ true
+  unfolding withArrivals
+  line-arrived-sound =
+      arrived-sound (b .lines) i (at b i k used) (withArrivals copies (lineAt (b .lines) i) .arrived) (sound-so b (k .is-sound) .line-sound i used) most
 
 -- a delivery is entered
 module _ (b : Lent) (key slip : Key) (copies : Copies) (i : ℕ) (k : Kept b) (wide : length slip ≡ slipKeyWidth) (few : copies .0 ≤ mostCopies) where
-  goods-entered : findSlip b slip ≡ Nothing → findLine b key ≡ At i → lineAt (b .lines) i .arrived .0 + copies .0 ≤ mostArrived → usedSlips b < slipRoom b
+  goods-entered : findSlip b slip ≡ Nothing → findLine b key ≡ At i → (most : lineAt (b .lines) i .arrived .0 + copies .0 ≤ mostArrived) → usedSlips b < slipRoom b
       → Follows b (arriving key (record { slip = slip; copies = copies .0 }))
-      (moreSlip (withLine b i (withArrivals copies (lineAt (b .lines) i))) slip i copies)
+      (moreSlip (withLines b (putArrived (b .lines) i (withArrivals copies (lineAt (b .lines) i) .arrived))) slip i copies)
   unfolding enter usedLines usedSlips slipRoom
   goods-entered e f most room =
-      let l : Stored = withArrivals copies (lineAt (b .lines) i) in
-      let c : Lent = withLine b i l in
       let used = line-used b key i f .0 in
       let own = line-used b key i f .1 in
-      let bounded = arrivals-bounded b k i used copies most in
-      let kept = put-kept b i l k used bounded in
+      let ls : List ℕ = putArrived (b .lines) i (withArrivals copies (lineAt (b .lines) i) .arrived) in
+      let c : Lent = withLines b ls in
+      let changed : Changed ls (b .lines) i = arrived-changed (b .lines) i _ in
+      let kept = put-kept b i ls changed k (line-arrived-sound b k i used copies most) in
       record {
         allowed = goods-passes b key (record { slip = slip; copies = copies .0 }) i e f most room;
         tells = λ x. record {
-          lines = (slip-lines c slip i copies kept room wide used (omega arith) ∙ line-changed b key i l (arrive (copies .0)) k f bounded (line-arrives (b .lines) i copies)) x;
+          lines = (slip-lines c slip i copies kept room wide used (omega arith) ∙ line-changed b key i ls (arrive (copies .0)) k f changed (arrived-told b k i used copies most)) x;
           slips = (slip-slips c slip i copies kept room wide used (omega arith)
               ∙ ap₂ (λ (t : List Slip) (line : Key). t ++ (record { line = line; says = record { slip = slip; copies = copies .0 } } ∷ []))
-              (put-slips b i l k used bounded) (put-key (b .lines) i l i ∙ own)) x;
+              (put-slips b i ls changed k) (same-key changed i ∙ own)) x;
         };
         kept = slip-kept c slip i copies kept room wide used (omega arith);
-        rooms = slip-rooms c slip i copies kept room wide used (omega arith) ∙ put-rooms b i l k used bounded;
+        rooms = slip-rooms c slip i copies kept room wide used (omega arith) ∙ put-rooms b i ls changed k;
       }
 
--- a report is entered
-module _ (b : Lent) (key : Key) (m : Mark) (h : Hold) (i : ℕ) (k : Kept b) where
-  report-entered : reportOf m ≡ some (record { hold = h }) → findLine b key ≡ At i
-      → Follows b (telling key (record { hold = h })) (withLine b i (withMark m (lineAt (b .lines) i)))
-  unfolding enter
-  report-entered e f =
-      let l : Stored = withMark m (lineAt (b .lines) i) in
-      let used = line-used b key i f .0 in
-      let bounded = mark-bounded b k i used m in
-      record {
-        allowed = report-passes b key (record { hold = h }) i f;
-        tells = λ x. record {
-          lines = line-changed b key i l (tell (record { hold = h })) k f bounded (line-reported (b .lines) i m h e) x;
-          slips = put-slips b i l k used bounded x;
-        };
-        kept = put-kept b i l k used bounded;
-        rooms = put-rooms b i l k used bounded;
-      }
+-- what a report's record says, as the last report of its line
+abbrev pub saidIn : List ℕ → Telling
+saidIn s = record { hold = holdOf (markIn s); message = knownNumber (messageIn s); date = dateIn s }
 
 -- a report's mark is J or N
-pub report-mark : (s : List ℕ) → reportOf (markIn s) ≡ some (record { hold = holdOf (markIn s) })
+pub report-mark : (s : List ℕ) → reportOf (markIn s) (messageIn s) (dateIn s) ≡ some (saidIn s)
 unfolding markIn reportOf holdOf
 report-mark s = split (same (fieldBytes Report 10 s) (bytes "J")) (λ e. rw e) (λ e. rw e)
+
+-- a report is entered
+module _ (b : Lent) (s : List ℕ) (n i : ℕ) (k : Kept b) (fit : Fitting Report s n) (used : i < usedLines b) where
+  abbrev pub linesReported : List ℕ
+  linesReported = putReport (b .lines) i (markIn s) (messageIn s) (dateIn s)
+
+  pub line-reported : lineAt linesReported i ≡ withReport (markIn s) (messageIn s) (expectedOf (dateIn s)) (lineAt (b .lines) i)
+  line-reported =
+      report-back (b .lines) i (markIn s) (messageIn s) (dateIn s) (report-date s n fit) (at b i k used) (report-small s n fit) (report-number s n fit)
+
+  reported-told : lineTold linesReported i ≡ tell (saidIn s) (lineTold (b .lines) i)
+  unfolding lineOf withReport tell lineTold
+  reported-told =
+      put-here b i linesReported (report-changed (b .lines) i _ _ _ (report-date s n fit)) k
+      ∙ rw (line-reported, date-back (b .lines) i (markIn s) (messageIn s) (dateIn s) (report-date s n fit) (at b i k used), report-mark s) refl
+
+  pub line-reported-sound : lineSound linesReported i ≡ true
+  line-reported-sound =
+      reported-sound (b .lines) i (at b i k used) (markIn s) (messageIn s) (dateIn s) (report-date s n fit) (report-small s n fit) (report-number s n fit)
+      (sound-so b (k .is-sound) .line-sound i used) (report-goes s n fit)
+
+report-entered : (b : Lent) (key : Key) (s : List ℕ) (n i : ℕ) → Kept b → Fitting Report s n → findLine b key ≡ At i
+    → Follows b (telling key (saidIn s)) (withLines b (putReport (b .lines) i (markIn s) (messageIn s) (dateIn s)))
+unfolding enter
+report-entered b key s n i k fit f =
+    let used = line-used b key i f .0 in
+    let ls : List ℕ = putReport (b .lines) i (markIn s) (messageIn s) (dateIn s) in
+    let changed : Changed ls (b .lines) i = report-changed (b .lines) i _ _ _ (report-date s n fit) in
+    record {
+      allowed = report-passes b key (saidIn s) i f;
+      tells = λ x. record {
+        lines = line-changed b key i ls (tell (saidIn s)) k f changed (reported-told b s n i k fit used) x;
+        slips = put-slips b i ls changed k x;
+      };
+      kept = put-kept b i ls changed k (line-reported-sound b s n i k fit used);
+      rooms = put-rooms b i ls changed k;
+    }
 
 module _ (s roster : List ℕ) (b : Lent) (i n : ℕ) (k : Kept b) where
   order-follows : Fitting Order s n → fitJudged Order s roster b ≡ Fits i → Follows b (fitAs Order s roster) (lentAfter Order s b i)
@@ -254,11 +269,11 @@ module _ (s roster : List ℕ) (b : Lent) (i n : ℕ) (k : Kept b) where
       let q = delivery-fits b i (lineKey Goods s) (copiesIn Goods s) (findSlip b (slipKey s)) (p .judged-fit) in
       goods-entered b (lineKey Goods s) (slipKey s) (copiesIn Goods s) i k (slip-key-width s n fit) (goods-copies s n fit) (q .0) (q .1 .0) (q .1 .1 .0) (q .1 .1 .1)
 
-  report-follows : fitJudged Report s roster b ≡ Fits i → Follows b (fitAs Report s roster) (lentAfter Report s b i)
-  unfolding fitAs lentAfter lineAfter bookJudged
-  report-follows e =
+  report-follows : Fitting Report s n → fitJudged Report s roster b ≡ Fits i → Follows b (fitAs Report s roster) (lentAfter Report s b i)
+  unfolding fitAs lentAfter bookJudged
+  report-follows fit e =
       let p = fit-passed Report s roster b i e in
-      report-entered b (lineKey Report s) (markIn s) (holdOf (markIn s)) i k (report-mark s) (report-fits b i (findLine b (lineKey Report s)) (p .judged-fit))
+      report-entered b (lineKey Report s) s n i k fit (report-fits b i (findLine b (lineKey Report s)) (p .judged-fit))
 
   -- a record of any kind; a closing record never fits
   kind-follows : (j : Kind) → Fitting j s n → fitJudged j s roster b ≡ Fits i → Follows b (fitAs j s roster) (lentAfter j s b i)
@@ -270,7 +285,7 @@ module _ (s roster : List ℕ) (b : Lent) (i n : ℕ) (k : Kept b) where
     where
       closing-never : (ceiling : ℕ) → bookJudged Closing s ceiling b ≡ Fits i → Follows b (fitAs Closing s roster) (lentAfter Closing s b i)
       closing-never ceiling e = unfold bookJudged in let z : _≡_ {A = ℕ} 0 1 = cc in absurd (omega arith)
-  kind-follows Report fit e = report-follows e
+  kind-follows Report fit e = report-follows fit e
 
 -- a record that is accepted
 pub follows : (s : Met) (b : Lent) → Kept b → (a : Accepts s b) → Follows b (fitOf s) (bookCall s b .lent)

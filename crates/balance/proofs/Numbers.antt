@@ -24,16 +24,17 @@ use Rattle.ledger.specs.Lists.{given, found}
 use Rattle.ledger.specs.Book.{Key, schoolOf, Order as Ordering, Goods as Arrival, Report as Telling}
 use Rattle.ledger.specs.Booking.{order, goods, report, isSame, firstOf, tests, judge, mostArrived as limit, numberOf}
 use Rattle.book.specs.Lent.{Lent, usedLines, usedSlips, lineRoom, slipRoom, sound, findLine, findSlip, openCopies}
-use Rattle.book.specs.Booking.{refusedNumber, lineKey, articleIn, slipKey, schoolIn, copiesIn, markIn, nothingToBook, noCopies, noReference, newLineJudged, orderJudged, slipJudged, arrivalJudged, goodsJudged, deliveryJudged, reportJudged, bookJudged, onRoster, fitJudged, refusedAs, doneAs, enteredAs, settled, bookAs, bookKind, bookRead, book}
+use Rattle.book.specs.Booking.{refusedNumber, lineKey, articleIn, slipKey, schoolIn, copiesIn, nothingToBook, noCopies, noReference, newLineJudged, orderJudged, slipJudged, arrivalJudged, goodsJudged, deliveryJudged, reportJudged, bookJudged, onRoster, fitJudged, refusedAs, doneAs, enteredAs, settled, bookAs, bookKind, bookRead, book}
 use Rattle.cells.specs.declared.search.Found.{Found}
 use Rattle.cells.specs.declared.search.Found.the-variants.{At, Nothing}
 use Rattle.book.specs.declared.answer.Verdict.{Verdict}
 use Rattle.book.specs.declared.answer.Verdict.the-variants.{Refuse, Fits}
 use Rattle.balance.specs.Met.{Met}
 use Rattle.balance.specs.Calls.{bookCall}
-use Rattle.balance.specs.Told.{slipTold, lineTold, told, roomsOf, holdOf, ceilingIn, fitAs, fitKind, fitOf}
+use Rattle.balance.specs.Told.{slipTold, lineTold, told, roomsOf, ceilingIn, fitAs, fitKind, fitOf}
 use Rattle.balance.specs.Joined.{NumbersAgree}
 use Rattle.balance.proofs.Keys.{school-heads}
+use Rattle.balance.proofs.Followed.{saidIn}
 use Rattle.balance.proofs.Opens.{open-told}
 use Rattle.balance.proofs.Found.{same-turned, no-line, line-found, no-slip, slip-found, lines-told, slips-told}
 
@@ -120,7 +121,7 @@ kind-number s roster b Order ceiling w h t =
 kind-number s roster b Goods ceiling w h t =
     delivery-number b (lineKey Goods s) (record { slip = slipKey s; copies = copiesIn Goods s .0 }) (findSlip b (slipKey s)) refl
 kind-number s roster b Closing ceiling w h t = absurd (let z : _≡_ {A = ℕ} 0 1 = cc in omega arith)
-kind-number s roster b Report ceiling w h t = report-number b (lineKey Report s) (record { hold = holdOf (markIn s) }) (findLine b (lineKey Report s)) refl
+kind-number s roster b Report ceiling w h t = report-number b (lineKey Report s) (saidIn s) (findLine b (lineKey Report s)) refl
 
 -- what a sound book answers a record that is read and has something to book, copies, a reference, and a school on the roster
 pub fit-answer : (s : Met) (b : Lent) (n : ℕ) (k : Kind) (ceiling : ℕ) → rosterSound (s .roster) ≡ true → sound b ≡ true → judged (s .given) ≡ ReadFits n → kindOf (s .given) ≡ Known k

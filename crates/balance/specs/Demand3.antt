@@ -6,17 +6,19 @@ use mathlib.Core.List.{List, [], _∷_, _++_}
 use lib.Dec.{eqb}
 use lib.ListN.{length, take}
 use Rattle.cells.specs.Bytes.{pick, same, joined}
-use Rattle.rules.specs.Values.{copies}
+use Rattle.rules.specs.Values.{copies, expectedOf}
+use Rattle.rules.specs.declared.expected.Expected.the-variants.{Blanks}
 use Rattle.record.specs.Layout.{kindOf}
 use Rattle.record.specs.declared.layout.Kind.the-variants.{Order, Goods, Closing, Report}
 use Rattle.record.specs.declared.layout.Kinded.{Kinded}
 use Rattle.record.specs.declared.layout.Kinded.the-variants.{Known, Unknown}
-use Rattle.entry.specs.declared.line.Mark.{Mark}
+use Rattle.entry.specs.declared.line.Line.{Line}
 use Rattle.entry.specs.declared.line.Mark.the-variants.{Unmarked}
+use Rattle.entry.specs.declared.report.Message.the-variants.{NoReport}
 use Rattle.entry.specs.declared.line.Figures.{Figures}
 use Rattle.ledger.specs.Lists.{keep, total}
 use Rattle.book.specs.Lent.{Lent, lent, sound}
-use Rattle.book.specs.Booking.{keyFields, schoolFields, slipFields, copiesIn, markIn, refusedAs, doneAs, fieldsIn}
+use Rattle.book.specs.Booking.{keyFields, schoolFields, slipFields, copiesIn, markIn, messageIn, dateIn, refusedAs, doneAs, fieldsIn}
 use Rattle.book.specs.declared.answer.Refused.the-variants.{Unsound, NoLine}
 use Rattle.book.specs.declared.answer.Told.{Told}
 use Rattle.balance.specs.Met.{Met}
@@ -80,17 +82,27 @@ recordsWith fields ss = keep (λ (s : Met). sameFields fields (keyFieldsIn s)) s
 abbrev pub deliveriesWith : List (List ℕ) → List Met → List Met
 deliveriesWith slip ss = keep (λ (s : Met). isDelivery s && sameFields slip (slipFieldsIn s)) ss
 
--- the mark of the last of some reports, or an earlier one where there is none
-unfoldable pub lastMark : Mark → List Met → Mark
-lastMark earlier [] = earlier
-lastMark earlier (s ∷ ss) = lastMark (markIn (s .given)) ss
+-- what the last of some reports says, or what stood before where there is none
+unfoldable pub lastSaid : {A : Type 0} → (List ℕ → A) → A → List Met → A
+lastSaid says earlier [] = earlier
+lastSaid says earlier (s ∷ ss) = lastSaid says (says (s .given)) ss
 
--- what a key's own accepted records say of its line: its order begins it, the deliveries after that are summed, and the last report's mark counts; without an order there is none (16)
+-- the line with so many copies ordered and arrived, and what the last of some reports says: its mark, message and expected date
+unfoldable pub lineMade : ℕ → ℕ → List Met → Line
+lineMade ordered arrived reports = record {
+  ordered = copies ordered;
+  arrived = copies arrived;
+  mark = lastSaid markIn Unmarked reports;
+  message = lastSaid messageIn NoReport reports;
+  expected = lastSaid (λ s. expectedOf (dateIn s)) Blanks reports;
+}
+
+-- what a key's own accepted records say of its line: its order begins it, the deliveries after that are summed, and the last report counts; without an order there is none (16)
 unfoldable pub lineFrom : List Met → Told
 lineFrom [] = refusedAs NoLine
 lineFrom (s ∷ ss) =
     pick (isOrder s)
-    (doneAs (record { ordered = copies (copiesOn s); arrived = copies (total copiesOn (keep isDelivery ss)); mark = lastMark Unmarked (keep isReport ss) }))
+    (doneAs (lineMade (copiesOn s) (total copiesOn (keep isDelivery ss)) (keep isReport ss)))
     (lineFrom ss)
 
 -- what the call by key answers for a record's own key

@@ -1,4 +1,4 @@
--- The figures that the calls answer are those of the book that the bytes tell; and the rule on lists refuses with the same numbers.
+-- The figures and the last report that the calls answer are those of the book that the bytes tell; and the rule on lists refuses with the same numbers.
 use Prim.Native.Nat.{ℕ, _≤_}
 use mathlib.Core.Path.{_≡_}
 use mathlib.Core.Bool.{true, false}
@@ -6,14 +6,19 @@ use mathlib.Core.Option.{Option, none, some}
 use mathlib.Core.List.{List, map}
 use lib.ListN.{length}
 use Rattle.cells.specs.Bytes.{pick, joined}
-use Rattle.rules.specs.Values.{copies}
+use Rattle.rules.specs.Values.{copies, expectedOf}
+use Rattle.rules.specs.declared.expected.Expected.the-variants.{Blanks}
 use Rattle.record.specs.Layout.{kindOf}
 use Rattle.record.specs.Read.{judged}
 use Rattle.record.specs.declared.answer.Verdict.the-variants.{Fits as ReadFits}
 use Rattle.record.specs.declared.layout.Kind.{Kind}
 use Rattle.record.specs.declared.layout.Kinded.the-variants.{Known}
+use Rattle.entry.specs.Report.{reportTold}
 use Rattle.entry.specs.declared.line.Figures.{Figures}
-use Rattle.ledger.specs.Book.{Line, ordered, filled, letGo, stillOpen, extra}
+use Rattle.entry.specs.declared.report.Message.{Message}
+use Rattle.entry.specs.declared.report.Message.the-variants.{NoReport, Unknown, Numbered}
+use Rattle.entry.specs.declared.report.Reported.{Reported}
+use Rattle.ledger.specs.Book.{Report, Line, ordered, filled, letGo, stillOpen, extra}
 use Rattle.ledger.specs.Booking.{numberOf, judge, lineAt}
 use Rattle.ledger.specs.History.{State}
 use Rattle.ledger.specs.Demand3.{Promise3}
@@ -35,12 +40,22 @@ unfoldable pub figuresTold : Line → Figures
 figuresTold l =
     record { ordered = copies (ordered l); filled = copies (filled l); «still_open» = copies (stillOpen l); «let_go» = copies (letGo l); extra = copies (extra l) }
 
+-- the message of a report, whose number is known or not
+unfoldable pub messageFrom : Option ℕ → Message
+messageFrom none = Unknown
+messageFrom (some n) = Numbered n
+
+-- a last report, or that there is none, as the calls give it
+unfoldable pub reportedTold : Option Report → Reported
+reportedTold none = reportTold NoReport Blanks
+reportedTold (some r) = reportTold (messageFrom (r .message)) (expectedOf (r .date))
+
 -- what a call says of the line that is found, or that there is none
 unfoldable pub saysOf : Option Line → Told
 saysOf none = refusedAs NoLine
-saysOf (some l) = record { answer = 0; place = 0; figures = figuresTold l }
+saysOf (some l) = record { answer = 0; place = 0; figures = figuresTold l; reported = reportedTold (l .last) }
 
--- the call by key gives the figures of the first line with the key in the told book, and 16 exactly where there is none; a field of wrong length matches no line, and 20 stands before all
+-- the call by key gives the figures and the last report of the first line with the key in the told book, and 16 exactly where there is none; a field of wrong length matches no line, and 20 stands before all
 abbrev pub AskedTells : Type 0
 AskedTells = (fields : List (List ℕ)) (b : Lent)
     → askCall fields b

@@ -7,7 +7,9 @@ use Rattle.record.specs.declared.layout.Kind.{Kind}
 use Rattle.record.specs.declared.layout.Kind.the-variants.{Order as order, Goods as goods, Closing as closing, Report as report}
 use Rattle.record.specs.declared.layout.Kinded.{Kinded}
 use Rattle.record.specs.declared.layout.Kinded.the-variants.{Known, Unknown}
-use Rattle.entry.specs.Stored.{lineAt, keyAt, articleAt, slipKeyAt, slipLineAt, slipCopiesAt}
+use Rattle.entry.specs.Stored.{lineAt, dateAt, keyAt, articleAt, slipKeyAt, slipLineAt, slipCopiesAt}
+use Rattle.entry.specs.declared.report.Message.{Message}
+use Rattle.entry.specs.declared.report.Message.the-variants.{NoReport, Unknown, Numbered}
 use Rattle.entry.specs.declared.line.Mark.{Mark}
 use Rattle.entry.specs.declared.line.Mark.the-variants.{Unmarked, Held, Dropped}
 use Rattle.ledger.specs.Book.{Hold, J, N, Report, Line, Slip, Book, Rooms}
@@ -16,7 +18,7 @@ use Rattle.book.specs.Lent.{Lent, usedLines, usedSlips, lineRoom, slipRoom}
 use Rattle.roster.specs.Roster.{standing}
 use Rattle.roster.specs.declared.Standing.{Standing}
 use Rattle.roster.specs.declared.Standing.the-variants.{On, Off}
-use Rattle.book.specs.Booking.{lineKey, articleIn, slipKey, schoolIn, copiesIn, markIn}
+use Rattle.book.specs.Booking.{lineKey, articleIn, slipKey, schoolIn, copiesIn, markIn, messageIn, dateIn}
 use Rattle.balance.specs.Met.{Met}
 
 -- what stands at the n places from i on
@@ -24,15 +26,21 @@ unfoldable pub listed : {A : Type 0} → (ℕ → A) → ℕ → ℕ → List A
 listed f zero i = []
 listed f (suc n) i = f i ∷ listed f n (suc i)
 
--- a mark as the last report
-unfoldable pub reportOf : Mark → Option Report
-reportOf Unmarked = none
-reportOf Held = some (record { hold = J })
-reportOf Dropped = some (record { hold = N })
+-- the number of a message, if it is known
+unfoldable pub knownNumber : Message → Option ℕ
+knownNumber NoReport = none
+knownNumber Unknown = none
+knownNumber (Numbered n) = some n
+
+-- a mark, a message and the bytes of an expected date as the last report
+unfoldable pub reportOf : Mark → Message → List ℕ → Option Report
+reportOf Unmarked n date = none
+reportOf Held n date = some (record { hold = J; message = knownNumber n; date = date })
+reportOf Dropped n date = some (record { hold = N; message = knownNumber n; date = date })
 
 unfoldable pub lineTold : List ℕ → ℕ → Line
 lineTold lines i =
-    record { key = keyAt lines i; asked = record { copies = lineAt lines i .ordered .0; article = articleAt lines i }; arrived = lineAt lines i .arrived .0; last = reportOf (lineAt lines i .mark) }
+    record { key = keyAt lines i; asked = record { copies = lineAt lines i .ordered .0; article = articleAt lines i }; arrived = lineAt lines i .arrived .0; last = reportOf (lineAt lines i .mark) (lineAt lines i .message) (dateAt lines i) }
 
 -- a stored slip has its line's index; here it names its line by key
 unfoldable pub slipTold : List ℕ → List ℕ → ℕ → Slip
@@ -61,8 +69,8 @@ ceilingIn Off = 0
 unfoldable pub fitAs : Kind → List ℕ → List ℕ → Fit
 fitAs order s roster = ordering (lineKey order s) (record { copies = copiesIn order s .0; article = articleIn order s }) (ceilingIn (standing roster (schoolIn order s)))
 fitAs goods s roster = arriving (lineKey goods s) (record { slip = slipKey s; copies = copiesIn goods s .0 })
-fitAs closing s roster = telling [] (record { hold = J })
-fitAs report s roster = telling (lineKey report s) (record { hold = holdOf (markIn s) })
+fitAs closing s roster = telling [] (record { hold = J; message = none; date = [] })
+fitAs report s roster = telling (lineKey report s) (record { hold = holdOf (markIn s); message = knownNumber (messageIn s); date = dateIn s })
 
 unfoldable pub fitKind : Kinded → List ℕ → List ℕ → Fit
 fitKind Unknown s roster = fitAs closing s roster

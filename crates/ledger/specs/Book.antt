@@ -34,8 +34,11 @@ pub record Goods : Type 0 where
   pub slip : Key
   pub copies : ℕ
 
+-- a report's message number, if it is known, and its expected date, as bytes, are kept in its line, and nothing else hangs on them
 pub record Report : Type 0 where
   pub hold : Hold
+  pub message : Option ℕ
+  pub date : List ℕ
 
 -- a line: its key, its order with the quantity Q and the article, the sum A of its slips, and its last report if any
 pub record Line : Type 0 where

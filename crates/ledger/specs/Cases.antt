@@ -1,6 +1,7 @@
 -- Cases for what demand 3 alone does not pin: figures, marks, schools, the limit, the numbers, 17 against 18.
 use Prim.Native.Nat.{ℕ}
 use Prim.Native.String.{String}
+use mathlib.Core.Option.{some}
 use mathlib.Core.List.{List, [], _∷_, _++_}
 use Rattle.cells.specs.Bytes.{bytes}
 use Rattle.ledger.specs.Lists.{given}
@@ -37,7 +38,7 @@ abbrev pub arriving : Key → String → ℕ → Fit
 arriving k position n = goods k (record { slip = slip position; copies = n })
 
 abbrev pub telling : Key → Hold → Fit
-telling k h = report k (record { hold = h })
+telling k h = report k (record { hold = h; message = some 15; date = bytes "20240315" })
 
 -- what the desk prints of a record: answer, ordered, filled, open, let go, extra
 abbrev pub Said : Type 0
