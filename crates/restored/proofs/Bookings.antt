@@ -11,7 +11,7 @@ use Rattle.record.specs.declared.layout.Kind.{Kind}
 use Rattle.record.specs.declared.layout.Kind.the-variants.{Order, Goods, Closing, Report}
 use Rattle.reader.proofs.Fitting.{Fitting}
 use Rattle.book.specs.Lent.{Lent, usedLines, usedSlips, sound, findLine, findSlip}
-use Rattle.book.specs.Booking.{lineKey, articleIn, slipKey, schoolIn, copiesIn, markIn, noCopies, bookJudged, lineAfter, lentAfter}
+use Rattle.book.specs.Booking.{lineKey, articleIn, slipKey, schoolIn, copiesIn, noCopies, bookJudged, lineAfter, lentAfter}
 use Rattle.book.proofs.Fields.{order-key, order-named, slip-key-width, order-copies, goods-copies}
 use Rattle.balance.specs.Demand3.{fresh, giveAll}
 use Rattle.balance.proofs.Followed.{FitPassed, fit-passed, order-fits, delivery-fits, report-fits}
@@ -47,9 +47,9 @@ module _ (s roster : List ℕ) (b : Lent) (i n : ℕ) (o : Ordered b) where
       goods-ordered b (lineKey Goods s) (slipKey s) (copiesIn Goods s) i o (slip-key-width s n fit) (omega arith) (goods-copies s n fit) (q .0) (q .1 .0) (q .1 .1 .0) (q .1 .1 .1) (slip-key-kept s n fit (e .something)) (goods-parties s n fit)
 
   -- a report
-  report-entered : FitPassed Report s roster b i → Ordered (lentAfter Report s b i)
-  unfolding lentAfter lineAfter bookJudged
-  report-entered e = report-ordered b (lineKey Report s) (markIn s) i o (report-fits b i (findLine b (lineKey Report s)) (e .judged-fit))
+  report-entered : Fitting Report s n → FitPassed Report s roster b i → Ordered (lentAfter Report s b i)
+  unfolding lentAfter bookJudged
+  report-entered fit e = report-ordered b (lineKey Report s) s n i o fit (report-fits b i (findLine b (lineKey Report s)) (e .judged-fit))
 
   -- a record of any kind; a closing record enters nothing
   kind-entered : (k : Kind) → Fitting k s n → FitPassed k s roster b i → Ordered (lentAfter k s b i)
@@ -57,7 +57,7 @@ module _ (s roster : List ℕ) (b : Lent) (i n : ℕ) (o : Ordered b) where
   kind-entered Order fit e = order-entered fit e
   kind-entered Goods fit e = goods-entered fit e
   kind-entered Closing fit e = o
-  kind-entered Report fit e = report-entered e
+  kind-entered Report fit e = report-entered fit e
 
 -- bookings keep an orderly book so
 pub stays-orderly : StaysOrderly

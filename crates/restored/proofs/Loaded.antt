@@ -5,19 +5,20 @@ use mathlib.Core.List.{List, _++_}
 use Prim.Native.Nat.{ℕ, _+_, _*_, _≤_, _<_}
 use native.Mathlib.Nat.{zero-add}
 use native.Mathlib.Omega.{arith}
-use lib.ListN.{length, take, drop, set, length-set, length-append}
+use lib.ListN.{length, getD, take, drop, set, length-set, length-append}
 use lib.Seq.{slice, length-slice, length-sets, take-at, drop-at, getD-set-same, getD-set-other}
 use Rattle.cells.specs.Little.{leAt, leBytes}
 use Rattle.cells.proofs.Numbers.{le-back}
-use Rattle.entry.specs.Stored.{lineWidth, slipWidth, mostArrived, lineAt}
+use Rattle.entry.specs.Stored.{lineWidth, markAt, messageAt, arrivedAt, slipWidth, mostArrived, lineAt}
 use Rattle.book.specs.Lent.{Lent, usedLines, usedSlips, lineRoom, slipRoom, roomsSound}
 use Rattle.save.specs.Entries.{arrivedOn, entriesKept}
-use Rattle.save.specs.Saved.{joinedFrom, lineBodyAt, slipBodyAt, statedLines, statedSlips, lineIn, slipIn, isSave}
-use Rattle.save.specs.Load.{loadedLine, lentLoaded}
+use Rattle.save.specs.Saved.{lineBodyWidth, slipBodyWidth, kindByte, savedLineWidth, savedSlipWidth, joinedFrom, lineBodyAt, slipBodyAt, statedLines, statedSlips, lineIn, slipIn, isSave}
+use Rattle.save.specs.Load.{unsaved, lineFrom, loadedLine, lentLoaded}
 use Rattle.save.proofs.Joined.{joined-length}
 use Rattle.restored.specs.Restored.{Tells}
-use Rattle.cells.proofs.Within.{number-within, front-within}
-use Rattle.restored.proofs.Cuts.{number-past, stored-front, bytes-wide}
+use Rattle.cells.proofs.Within.{number-within, part-within, front-within}
+use Rattle.restored.proofs.Cuts.{number-past, part-past, stored-front, bytes-wide}
+use Rattle.restored.proofs.Bodies.{line-mark, unsavedWidth, unsaved-wide}
 use Rattle.restored.proofs.Joined.{joined-part}
 use Rattle.restored.proofs.Views.{entries-same, arrived-same}
 use Rattle.restored.proofs.Kept.{sum-most, kept-sound}
@@ -75,30 +76,32 @@ module _ (s : List ℕ) (b : Lent) (two : length (b .used) ≡ 2) (valid : isSav
   loaded-rooms h = rw (loaded-line-length, loaded-slip-length) h
 
   -- a line's body in the save is so long
-  line-wide : (i : ℕ) → i < n → length (lineIn s i) ≡ 52
+  line-wide : (i : ℕ) → i < n → length (lineIn s i) ≡ lineBodyWidth
   unfolding lineIn
-  line-wide i a = length-slice (53 * i + 1) (53 * i + 53) s (omega (arith, valid-so s valid .long)) ∙ omega arith
+  line-wide i a = length-slice (savedLineWidth * i + kindByte) (savedLineWidth * i + savedLineWidth) s (omega (arith, valid-so s valid .long)) ∙ omega arith
 
   -- a slip
-  slip-wide : (j : ℕ) → j < m → length (slipIn s n j) ≡ 50
+  slip-wide : (j : ℕ) → j < m → length (slipIn s n j) ≡ slipBodyWidth
   unfolding slipIn
   slip-wide j a =
-      length-slice (53 * n + 51 * j + 1) (53 * n + 51 * j + 51) s (omega (arith, valid-so s valid .long)) ∙ omega arith
+      length-slice (savedLineWidth * n + savedSlipWidth * j + kindByte) (savedLineWidth * n + savedSlipWidth * j + savedSlipWidth) s (omega (arith, valid-so s valid .long)) ∙ omega arith
 
   -- a line of the book is so long
-  entry-wide : (i : ℕ) → i < n → length (loadedLine s n m i) ≡ 56
-  unfolding loadedLine
+  entry-wide : (i : ℕ) → i < n → length (loadedLine s n m i) ≡ lineWidth
+  unfolding loadedLine lineFrom
   entry-wide i a =
-      length-append (lineIn s i) (leBytes 4 (arrivedOn (slipIn s n) m i))
-      ∙ ap₂ (λ (x y : ℕ). x + y) (line-wide i a) (bytes-wide 4 (arrivedOn (slipIn s n) m i))
+      let mark : ℕ = getD (lineIn s i) markAt 0 in
+      let sum : ℕ = arrivedOn (slipIn s n) m i in
+      length-append (lineIn s i) (unsaved mark ++ leBytes 4 sum)
+      ∙ ap₂ (λ (x y : ℕ). x + y) (line-wide i a) (length-append (unsaved mark) (leBytes 4 sum) ∙ ap₂ (λ (x y : ℕ). x + y) (unsaved-wide mark) (bytes-wide 4 sum))
 
   -- the lines that the load stores are so long
   lines-wide : length (joinedFrom (loadedLine s n m) n 0) ≡ lineWidth * n
-  lines-wide = joined-length (loadedLine s n m) 56 n 0 (λ k a c. entry-wide k (omega arith))
+  lines-wide = joined-length (loadedLine s n m) lineWidth n 0 (λ k a c. entry-wide k (omega arith))
 
   -- the slips
   slips-wide : length (joinedFrom (slipIn s n) m 0) ≡ slipWidth * m
-  slips-wide = joined-length (slipIn s n) 50 m 0 (λ k a c. slip-wide k (omega arith))
+  slips-wide = joined-length (slipIn s n) slipWidth m 0 (λ k a c. slip-wide k (omega arith))
 
   -- the loaded lines, and behind them what was there
   loaded-lines : c .lines ≡ joinedFrom (loadedLine s n m) n 0 ++ drop (lineWidth * n) (b .lines)
@@ -126,38 +129,51 @@ module _ (s : List ℕ) (b : Lent) (two : length (b .used) ≡ 2) (valid : isSav
   other-slips : drop (slipWidth * m) (c .slips) ≡ drop (slipWidth * m) (b .slips)
   other-slips = ap (drop (slipWidth * m)) loaded-slips ∙ drop-at (joinedFrom (slipIn s n) m 0) (drop (slipWidth * m) (b .slips)) (slipWidth * m) slips-wide
 
-  -- a line as it is stored: its body, and as A its slips' sum
-  line-stored : (i : ℕ) → i < n → slice (56 * i) (56 * i + 56) (c .lines) ≡ loadedLine s n m i
+  -- a line as it is stored: its body, what was not saved, and as A its slips' sum
+  line-stored : (i : ℕ) → i < n → slice (lineWidth * i) (lineWidth * i + lineWidth) (c .lines) ≡ loadedLine s n m i
   line-stored i a =
-      ap (slice (56 * i) (56 * i + 56)) loaded-lines
-      ∙ joined-part (loadedLine s n m) 56 (drop (lineWidth * n) (b .lines)) n 0 i (λ k a c. entry-wide k (omega arith)) a
+      ap (slice (lineWidth * i) (lineWidth * i + lineWidth)) loaded-lines
+      ∙ joined-part (loadedLine s n m) lineWidth (drop (lineWidth * n) (b .lines)) n 0 i (λ k a c. entry-wide k (omega arith)) a
       ∙ ap (loadedLine s n m) (zero-add i)
 
   -- the bodies of lines are the save's
   loaded-line : (i : ℕ) → i < n → lineBodyAt (c .lines) i ≡ lineIn s i
-  unfolding lineBodyAt loadedLine
+  unfolding lineBodyAt loadedLine lineFrom
   loaded-line i a =
-      sym (front-within (c .lines) (56 * i) (56 * i + 56) 52 (omega arith))
-      ∙ ap (take 52) (line-stored i a)
-      ∙ take-at (lineIn s i) (leBytes 4 (arrivedOn (slipIn s n) m i)) 52 (line-wide i a)
+      sym (front-within (c .lines) (lineWidth * i) (lineWidth * i + lineWidth) lineBodyWidth (omega arith))
+      ∙ ap (take lineBodyWidth) (line-stored i a)
+      ∙ take-at (lineIn s i) (unsaved (getD (lineIn s i) markAt 0) ++ leBytes 4 (arrivedOn (slipIn s n) m i)) lineBodyWidth (line-wide i a)
+
+  -- message and expected date are what a load has for them
+  loaded-report : (i : ℕ) → i < n → slice (lineWidth * i + messageAt) (lineWidth * i + arrivedAt) (c .lines) ≡ unsaved (getD (lineIn s i) markAt 0)
+  unfolding loadedLine lineFrom
+  loaded-report i a =
+      let said : List ℕ = unsaved (getD (lineIn s i) markAt 0) in
+      let sum : List ℕ = leBytes 4 (arrivedOn (slipIn s n) m i) in
+      sym (part-within (c .lines) (lineWidth * i) (lineWidth * i + lineWidth) messageAt arrivedAt (omega arith))
+      ∙ ap (slice messageAt arrivedAt) (line-stored i a)
+      ∙ part-past (lineIn s i) (said ++ sum) lineBodyWidth (line-wide i a) 0 unsavedWidth
+      ∙ take-at said sum unsavedWidth (unsaved-wide (getD (lineIn s i) markAt 0))
 
   -- so are those of slips
   loaded-slip : (j : ℕ) → j < m → slipBodyAt (c .slips) j ≡ slipIn s n j
   unfolding slipBodyAt
   loaded-slip j a =
-      ap (slice (50 * j) (50 * j + 50)) loaded-slips
-      ∙ joined-part (slipIn s n) 50 (drop (slipWidth * m) (b .slips)) m 0 j (λ k a c. slip-wide k (omega arith)) a
+      ap (slice (slipWidth * j) (slipWidth * j + slipBodyWidth)) loaded-slips
+      ∙ joined-part (slipIn s n) slipWidth (drop (slipWidth * m) (b .slips)) m 0 j (λ k a c. slip-wide k (omega arith)) a
       ∙ ap (slipIn s n) (zero-add j)
 
   -- A is read back
   loaded-arrived : (i : ℕ) → i < n → lineAt (c .lines) i .arrived .0 ≡ arrivedOn (slipIn s n) m i
-  unfolding lineAt loadedLine
+  unfolding lineAt loadedLine lineFrom
   loaded-arrived i a =
+      let said : List ℕ = unsaved (getD (lineIn s i) markAt 0) in
       let sum : ℕ = arrivedOn (slipIn s n) m i in
       let most : sum ≤ mostArrived = sum-most n m (lineIn s) (slipIn s n) (valid-so s valid .entries) i a in
-      sym (number-within (c .lines) (56 * i) (56 * i + 56) 52 4 (omega arith))
-      ∙ ap (λ (l : List ℕ). leAt l 52 4) (line-stored i a)
-      ∙ number-past (lineIn s i) (leBytes 4 sum) 52 (line-wide i a) 0 4
+      sym (number-within (c .lines) (lineWidth * i) (lineWidth * i + lineWidth) arrivedAt 4 (omega arith))
+      ∙ ap (λ (l : List ℕ). leAt l arrivedAt 4) (line-stored i a)
+      ∙ number-past (lineIn s i) (said ++ leBytes 4 sum) lineBodyWidth (line-wide i a) unsavedWidth 4
+      ∙ number-past said (leBytes 4 sum) unsavedWidth (unsaved-wide (getD (lineIn s i) markAt 0)) 0 4
       ∙ le-back 4 sum (omega arith)
 
   -- the book keeps the rules
@@ -180,10 +196,12 @@ module _ (s : List ℕ) (b : Lent) (two : length (b .used) ≡ 2) (valid : isSav
         count-lines = loaded-count-lines;
         count-slips = loaded-count-slips;
         line = loaded-line;
+        report = loaded-report;
         slip = loaded-slip;
         orderly =
             record {
-              is-sound = kept-sound c (loaded-rooms rooms) (rw (loaded-count-lines, loaded-line-room) lineFit) (rw (loaded-count-slips, loaded-slip-room) slipFit) loaded-entries loaded-sums;
+              is-sound = kept-sound c (loaded-rooms rooms) (rw (loaded-count-lines, loaded-line-room) lineFit) (rw (loaded-count-slips, loaded-slip-room) slipFit) loaded-entries loaded-sums
+                  (λ i a. let l : i < n = omega (arith, loaded-count-lines) in rw (← line-mark (c .lines) i, loaded-line i l) (loaded-report i l));
               entries = loaded-entries;
               sums = loaded-sums;
             };

@@ -10,6 +10,7 @@ use lib.ListN.{length, getD, take}
 use Rattle.cells.specs.Bytes.{within, same}
 use Rattle.cells.specs.Little.{leAt}
 use Rattle.cells.proofs.Bools.{and-left}
+use Rattle.entry.specs.Report.{mostMark}
 use Rattle.entry.specs.Stored.{keyWidth, orderedAt, markAt, slipKeyWidth, mostCopies, keyAt, slipKeyAt}
 use Rattle.book.specs.Lent.{Lent, usedLines, usedSlips}
 use Rattle.cells.proofs.Searches.{all-at}
@@ -33,7 +34,7 @@ line-rule : (ls : List ℕ) (i : ℕ) → lineKept (lineBodyAt ls i) ≡ true �
 unfolding lineKept
 line-rule ls i h =
     let body : List ℕ = lineBodyAt ls i in
-    rw (← line-named ls i) (and-left (fieldsKept lineFields referenceAt (take orderedAt body)) (within 1 mostCopies (leAt body orderedAt 2) && leb (getD body markAt 0) 2) h)
+    rw (← line-named ls i) (and-left (fieldsKept lineFields referenceAt (take orderedAt body)) (within 1 mostCopies (leAt body orderedAt 2) && leb (getD body markAt 0) mostMark) h)
 
 -- an orderly book with two counts
 pub ordered : (b : Lent) → Orderly b → length (b .used) ≡ 2 → Ordered b

@@ -1,20 +1,20 @@
 -- What bookings keep of a book, entry by entry, and that such a book is orderly.
 use mathlib.Core.Path.{_≡_, _∙_, sym}
-use mathlib.Core.Bool.{Bool, true, false, not, _&&_}
+use mathlib.Core.Bool.{true, false, not, _&&_}
 use mathlib.Core.List.{List}
 use Prim.Native.Nat.{ℕ, _+_, _*_, _<_}
 use native.Mathlib.Omega.{arith}
 use borrow.Author.Tests.{le-leb, lt-ltb}
 use lib.Dec.{eqb, leb}
-use lib.ListN.{getD, take}
+use lib.ListN.{take}
 use Rattle.cells.specs.Bytes.{pick, within, same}
 use Rattle.cells.specs.Little.{leAt}
 use Rattle.cells.specs.Search.{sumFrom}
 use Rattle.cells.proofs.Bools.{and-left, and-right}
 use Rattle.cells.proofs.Searches.{each-place, sum-same}
-use Rattle.entry.specs.Stored.{lineWidth, keyWidth, orderedAt, markAt, arrivedAt, slipKeyWidth, mostCopies, mostArrived, lineAt, keyAt, lineSound, slipKeyAt, slipLineAt, slipCopiesAt}
+use Rattle.entry.specs.Stored.{lineWidth, keyWidth, orderedAt, slipKeyWidth, mostCopies, mostArrived, lineAt, keyAt, lineSound, slipKeyAt, slipLineAt, slipCopiesAt}
 use Rattle.entry.proofs.Kept.{namedAt}
-use Rattle.entry.proofs.Sound.{sound-bounded}
+use Rattle.entry.proofs.Sound.{sound-bounded, sound-mark}
 use Rattle.book.specs.Lent.{Lent, usedLines, usedSlips}
 use Rattle.book.specs.Booking.{slipFields}
 use Rattle.book.proofs.Sounds.{sound-so}
@@ -41,14 +41,11 @@ pub record Ordered (b : Lent) : Type 0 where
 
 -- a line that is sound, with a key and article that keep the rules, keeps the rules
 line-kept : (ls : List ℕ) (i : ℕ) → lineSound ls i ≡ true → fieldsKept lineFields referenceAt (namedAt ls i) ≡ true → lineKept (lineBodyAt ls i) ≡ true
-unfolding lineKept lineSound
+unfolding lineKept lineAt
 line-kept ls i h e =
     let q : ℕ = leAt ls (lineWidth * i + orderedAt) 2 in
-    let m : Bool = leb (getD ls (lineWidth * i + markAt) 0) 2 in
-    let a : Bool = leb (leAt ls (lineWidth * i + arrivedAt) 4) mostArrived in
-    let copies : within 1 mostCopies q ≡ true = and-left (within 1 mostCopies q) (m && a) h in
-    let mark : m ≡ true = and-left m a (and-right (within 1 mostCopies q) (m && a) h) in
-    rw (line-named ls i, line-copies ls i, line-mark ls i, e, and-left (leb 1 q) (leb q mostCopies) copies, and-right (leb 1 q) (leb q mostCopies) copies, mark)
+    let b = sound-bounded ls i h in
+    rw (line-named ls i, line-copies ls i, line-mark ls i, e, le-leb 1 q (b .least), le-leb q mostCopies (b .most), sound-mark ls i h)
 
 -- where no earlier key is the same, an entry is the first with its key
 is-first : (width : ℕ) (body : ℕ → List ℕ) (key : ℕ → List ℕ) → ((x : ℕ) → take width (body x) ≡ key x)

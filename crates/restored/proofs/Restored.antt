@@ -1,4 +1,4 @@
--- Load of a save gives the book, save of what was loaded gives the bytes, and a load gives the book that the save tells or refuses.
+-- Load of a save gives the book but for the last reports, save of what was loaded gives the bytes, and a load gives the book that the save tells or refuses.
 use mathlib.Core.Path.{_≡_, _∙_, ap, sym, refl}
 use mathlib.Core.Bool.{Bool, _&&_}
 use mathlib.Core.Logic.{_⊎_, inl, inr}
@@ -14,7 +14,7 @@ use Rattle.entry.specs.Stored.{lineWidth, slipWidth}
 use Rattle.book.specs.Lent.{Lent, usedLines, usedSlips, lineRoom, slipRoom, roomsSound}
 use Rattle.save.specs.Saved.{refusedNumber, notSaved, savedForm, savedWidth, save, statedLines, statedSlips, isSave}
 use Rattle.save.specs.Load.{Outcome, doneAs, outcome, notLoaded, lentLoaded, load}
-use Rattle.restored.specs.Restored.{Bytes, Orderly, SameBook, Holds, savedBytes, LoadOfSave, SaveOfLoad, Tells, Refuses, ToldOrRefused, LoadsExactly}
+use Rattle.restored.specs.Restored.{Bytes, Orderly, SameButReports, Holds, savedBytes, LoadOfSave, SaveOfLoad, Tells, Refuses, ToldOrRefused, LoadsExactly}
 use Rattle.restored.proofs.Cuts.{stored-front}
 use Rattle.restored.proofs.Loaded.{loaded-count-lines, loaded-count-slips, front-lines, front-slips, loaded-tells}
 use Rattle.restored.proofs.Saved.{told-saved, told-width, saved-width, saved-valid, saved-lines, saved-slips, lines-again, slips-again}
@@ -97,7 +97,7 @@ module _ (b c : Lent) (o : Orderly b) (bytes : Bytes (b .lines)) (holds : Holds 
   loads = rw (holds .rooms, saved-valid b o, le-leb (statedLines s) (lineRoom c) line-fit, le-leb (statedSlips s) (slipRoom c) slip-fit)
 
   -- the counts and the used entries are the book's
-  same-book : SameBook b (lentLoaded s (statedLines s) (statedSlips s) c)
+  same-book : SameButReports b (lentLoaded s (statedLines s) (statedSlips s) c)
   same-book =
       let two = holds .counts in
       let valid = saved-valid b o in
@@ -117,7 +117,7 @@ module _ (b c : Lent) (o : Orderly b) (bytes : Bytes (b .lines)) (holds : Holds 
       }
 
   -- so the load gives the book
-  load-saved : (load s c .said .answer ≡ 0) × SameBook b (load s c .lent)
+  load-saved : (load s c .said .answer ≡ 0) × SameButReports b (load s c .lent)
   load-saved = rw loads (refl, same-book)
 
 -- load of a save gives the book

@@ -1,22 +1,22 @@
 -- The saved form of a book: of a sound one, read back; and of one that is told by a save, the save.
-use mathlib.Core.Path.{_≡_, _∙_, ap, ap₂, sym, refl}
+use mathlib.Core.Path.{_≡_, _∙_, ap, sym, refl}
 use mathlib.Core.Bool.{true}
-use mathlib.Core.List.{List, _++_}
+use mathlib.Core.List.{List}
 use Prim.Native.Nat.{ℕ, _+_, _*_, _≤_, _<_}
 use native.Mathlib.Omega.{arith}
 use lib.ListN.{length, take}
-use lib.Seq.{slice, length-slice}
-use Rattle.cells.specs.Little.{leAt, leBytes}
-use Rattle.cells.proofs.Parts.{parts-join}
-use Rattle.entry.specs.Stored.{lineWidth, slipWidth, lineAt}
+use lib.Seq.{length-slice}
+use Rattle.cells.specs.Little.{leAt}
+use Rattle.entry.specs.Stored.{lineWidth, arrivedAt, slipWidth, lineAt}
 use Rattle.book.specs.Lent.{Lent, usedLines, usedSlips}
 use Rattle.book.proofs.Sounds.{sound-so}
 use Rattle.save.specs.Entries.{arrivedOn}
-use Rattle.save.specs.Saved.{joinedFrom, lineBodyAt, slipBodyAt, lineEntries, slipEntries, savedForm, savedWidth, statedLines, statedSlips, lineIn, slipIn, isSave}
-use Rattle.save.specs.Load.{loadedLine}
-use Rattle.restored.specs.Restored.{Bytes, Orderly, Tells}
+use Rattle.save.specs.Saved.{lineBodyWidth, slipBodyWidth, joinedFrom, lineBodyAt, slipBodyAt, lineEntries, slipEntries, savedForm, savedWidth, statedLines, statedSlips, lineIn, slipIn, isSave}
+use Rattle.save.specs.Load.{lineFrom, loadedLine}
+use Rattle.restored.specs.Restored.{Bytes, Orderly, withoutReport, Tells}
 use Rattle.restored.proofs.Cuts.{bytes-back}
-use Rattle.restored.proofs.Joined.{joined-front}
+use Rattle.restored.proofs.Joined.{joined-same, joined-front}
+use Rattle.restored.proofs.Bodies.{line-mark}
 use Rattle.restored.proofs.Views.{arrived-same}
 use Rattle.restored.proofs.Forms.{formed, formed-same, formed-length, formed-line, formed-slip, formed-lines, formed-slips, formed-save, valid-so, valid-formed}
 
@@ -54,14 +54,14 @@ module _ (b : Lent) (orderly : Orderly b) where
   slip = slipBodyAt (b .slips)
 
   -- the body of a line is of its width
-  line-wide : (i : ℕ) → i < n → length (line i) ≡ 52
+  line-wide : (i : ℕ) → i < n → length (line i) ≡ lineBodyWidth
   unfolding lineBodyAt
-  line-wide i a = length-slice (56 * i) (56 * i + 52) (b .lines) (omega (arith, sound-so b (orderly .is-sound) .lines-in)) ∙ omega arith
+  line-wide i a = length-slice (lineWidth * i) (lineWidth * i + lineBodyWidth) (b .lines) (omega (arith, sound-so b (orderly .is-sound) .lines-in)) ∙ omega arith
 
   -- a slip's
-  slip-wide : (j : ℕ) → j < m → length (slip j) ≡ 50
+  slip-wide : (j : ℕ) → j < m → length (slip j) ≡ slipBodyWidth
   unfolding slipBodyAt
-  slip-wide j a = length-slice (50 * j) (50 * j + 50) (b .slips) (omega (arith, sound-so b (orderly .is-sound) .slips-in)) ∙ omega arith
+  slip-wide j a = length-slice (slipWidth * j) (slipWidth * j + slipBodyWidth) (b .slips) (omega (arith, sound-so b (orderly .is-sound) .slips-in)) ∙ omega arith
 
   -- its lines are a number of two bytes
   few-lines : n < 65536
@@ -95,21 +95,22 @@ module _ (b : Lent) (orderly : Orderly b) where
   saved-slip : (j : ℕ) → j < m → slipIn (savedForm b) n j ≡ slip j
   saved-slip j a = ap (λ (s : List ℕ). slipIn s n j) (book-formed b) ∙ formed-slip n m line slip line-wide slip-wide j a
 
-  -- a line is loaded as it stands in the book
-  line-again : Bytes (b .lines) → (i : ℕ) → i < n → loadedLine (savedForm b) n m i ≡ slice (56 * i) (56 * i + 56) (b .lines)
-  unfolding loadedLine lineBodyAt lineAt
+  -- a line is loaded as it stands in the book, but for its last report
+  line-again : Bytes (b .lines) → (i : ℕ) → i < n → loadedLine (savedForm b) n m i ≡ withoutReport (b .lines) i
+  unfolding loadedLine lineFrom withoutReport lineAt
   line-again bytes i a =
-      let room : 56 * i + 52 + 4 ≤ length (b .lines) = omega (arith, sound-so b (orderly .is-sound) .lines-in) in
-      let sum : arrivedOn (slipIn (savedForm b) n) m i ≡ leAt (b .lines) (56 * i + 52) 4 =
+      let at : ℕ = lineWidth * i + arrivedAt in
+      let room : at + 4 ≤ length (b .lines) = omega (arith, sound-so b (orderly .is-sound) .lines-in) in
+      let end : lineWidth * i + lineWidth ≡ at + 4 = omega arith in
+      let sum : arrivedOn (slipIn (savedForm b) n) m i ≡ leAt (b .lines) at 4 =
       arrived-same m (slipIn (savedForm b) n) slip saved-slip i ∙ sym (orderly .sums i a) in
-      ap₂ (λ (x y : List ℕ). x ++ y) (saved-line i a) (ap (leBytes 4) sum ∙ bytes-back (b .lines) bytes 4 (56 * i + 52) room)
-      ∙ parts-join (56 * i) 52 4 (b .lines)
+      rw (saved-line i a, line-mark (b .lines) i, sum, bytes-back (b .lines) bytes 4 at room, end) refl
 
-  -- the loaded lines are the used lines of the book
-  pub lines-again : Bytes (b .lines) → joinedFrom (loadedLine (savedForm b) n m) n 0 ≡ take (lineWidth * n) (b .lines)
-  lines-again bytes = joined-front (b .lines) 56 (loadedLine (savedForm b) n m) n (sound-so b (orderly .is-sound) .lines-in) (line-again bytes)
+  -- the loaded lines are the used lines of the book, but for these
+  pub lines-again : Bytes (b .lines) → joinedFrom (loadedLine (savedForm b) n m) n 0 ≡ joinedFrom (withoutReport (b .lines)) n 0
+  lines-again bytes = joined-same (loadedLine (savedForm b) n m) (withoutReport (b .lines)) n 0 (λ i a c. line-again bytes i (omega arith))
 
   -- the slips
   pub slips-again : joinedFrom (slipIn (savedForm b) n) m 0 ≡ take (slipWidth * m) (b .slips)
   unfolding slipBodyAt
-  slips-again = joined-front (b .slips) 50 (slipIn (savedForm b) n) m (sound-so b (orderly .is-sound) .slips-in) saved-slip
+  slips-again = joined-front (b .slips) slipWidth (slipIn (savedForm b) n) m (sound-so b (orderly .is-sound) .slips-in) saved-slip

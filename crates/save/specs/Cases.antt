@@ -4,13 +4,18 @@ use Prim.Native.String.{String}
 use mathlib.Core.List.{List, [], _∷_, _++_, map}
 use lib.Dec.{eqb, ltb}
 use lib.ListN.{take, replicate, set}
+use lib.Seq.{sets}
 use Rattle.cells.specs.Bytes.{pick, bytes}
 use Rattle.cells.specs.Little.{leBytes}
 use Rattle.rules.specs.Cases.{refusedBytes, takenBytes}
 use Rattle.record.specs.Samples.{X, Y, Z, put}
 use Rattle.book.specs.Lent.{Lent}
 use Rattle.book.specs.Booking.{book}
-use Rattle.book.specs.Cases.{roomy, schools}
+use Rattle.entry.specs.Report.{messageUnknown, blankDate}
+use Rattle.entry.specs.Stored.{markAt}
+use Rattle.book.specs.Asked.{lineAsked}
+use Rattle.book.specs.Cases.{roomy, schools, withBoth}
+use Rattle.book.specs.Reports.{reportOn, reporting, later, ownKey}
 use Rattle.save.specs.Load.{load}
 
 -- a saved line and a saved slip from texts and numbers, and the end
@@ -150,11 +155,30 @@ overused = record { lines = day .lines; slips = day .slips; used = 3 ∷ 1 ∷ [
 
 -- a room that is no whole number of lines
 abbrev pub oddRoom : Lent
-oddRoom = record { lines = take 111 (day .lines); slips = day .slips; used = 0 ∷ 0 ∷ [] }
+oddRoom = record { lines = take 131 (day .lines); slips = day .slips; used = 0 ∷ 0 ∷ [] }
 
 -- it saves to these bytes, with what stood behind them left as it was
 unfoldable pub daySaved : List ℕ
 daySaved = ours ++ (ourSlip ++ endOf 1 1)
+
+-- the book that they load to: message and expected date of its line are not in them
+unfoldable pub dayLoaded : Lent
+dayLoaded = record { lines = sets (withBoth 2 2 .lines) markAt (1 ∷ (leBytes 2 messageUnknown ++ blankDate)); slips = withBoth 2 2 .slips; used = withBoth 2 2 .used }
+
+-- the book after X and Y, to which no report has come, and the bytes that it saves to
+abbrev pub unreported : Lent
+unreported = withBoth 2 2
+
+unfoldable pub unreportedSaved : List ℕ
+unreportedSaved = set ours 52 0 ++ (ourSlip ++ endOf 1 1)
+
+-- what is told of the loaded line, of a delivery after it, and of a report after that
+unfoldable pub toldAfter : Lent → List (List ℕ)
+toldAfter b =
+    reportOn (lineAsked ownKey b .reported)
+    ∷ reportOn (book later schools b .said .reported)
+    ∷ reportOn (book (reporting "000N" "00000000") schools (book later schools b .lent) .said .reported)
+    ∷ []
 
 -- 1,001 slips on one line: 1,000 of 9,999 copies, and one more slip
 abbrev pub manySlips : ℕ → ℕ → List ℕ

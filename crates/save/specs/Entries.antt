@@ -13,12 +13,9 @@ use Rattle.rules.specs.declared.class.Class.the-variants.{Allowed, Blank}
 use Rattle.record.specs.Layout.{noField, layout, firstBroken}
 use Rattle.record.specs.declared.layout.Field.{Field}
 use Rattle.record.specs.declared.layout.Kind.the-variants.{Goods}
+use Rattle.entry.specs.Report.{mostMark}
 use Rattle.entry.specs.Stored.{keyWidth, orderedAt, markAt, slipKeyWidth, slipCopiesPlace, mostCopies, mostArrived}
 use Rattle.book.specs.Booking.{keyFields, articleFields, slipFields}
-
--- the highest byte that is a mark
-abbrev pub mostMark : ℕ
-mostMark = 2
 
 -- an address and its qualifier
 abbrev pub partyWidth : ℕ

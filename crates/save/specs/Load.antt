@@ -2,11 +2,13 @@
 use Prim.Native.Nat.{ℕ}
 use mathlib.Core.Bool.{_&&_}
 use mathlib.Core.List.{List, _++_}
-use lib.Dec.{leb}
-use lib.ListN.{set}
+use lib.Dec.{eqb, leb}
+use lib.ListN.{getD, set}
 use lib.Seq.{sets}
 use Rattle.cells.specs.Bytes.{pick}
 use Rattle.cells.specs.Little.{leBytes}
+use Rattle.entry.specs.Report.{noReport, messageUnknown, noMark, blankDate}
+use Rattle.entry.specs.Stored.{markAt}
 use Rattle.book.specs.Lent.{Lent, lineRoom, slipRoom, roomsSound}
 use Rattle.save.specs.Entries.{arrivedOn}
 use Rattle.save.specs.Saved.{refusedNumber, joinedFrom, statedLines, statedSlips, lineIn, slipIn, isSave}
@@ -14,9 +16,20 @@ use Rattle.save.specs.declared.answer.Refused.{Refused}
 use Rattle.save.specs.declared.answer.Refused.the-variants.{Unsound, NoSave, TooSmall}
 use Rattle.save.specs.declared.answer.Loaded.{Loaded}
 
--- a line of the book from a save of n lines and m slips: its body, and as A the sum of its slips
+-- message and expected date of a loaded line, by its mark, since a save drops them: without a mark no report has come, with one its message is unknown; eight blanks
+unfoldable pub unsavedMessage : ℕ → ℕ
+unsavedMessage mark = pick (eqb mark noMark) noReport messageUnknown
+
+unfoldable pub unsaved : ℕ → List ℕ
+unsaved mark = leBytes 2 (unsavedMessage mark) ++ blankDate
+
+-- a line of the book from its body and its A: between them what was not saved
+unfoldable pub lineFrom : List ℕ → ℕ → List ℕ
+lineFrom body arrived = body ++ (unsaved (getD body markAt 0) ++ leBytes 4 arrived)
+
+-- that of a save of n lines and m slips; A is the sum of its slips
 unfoldable pub loadedLine : List ℕ → ℕ → ℕ → ℕ → List ℕ
-loadedLine s n m i = lineIn s i ++ leBytes 4 (arrivedOn (slipIn s n) m i)
+loadedLine s n m i = lineFrom (lineIn s i) (arrivedOn (slipIn s n) m i)
 
 -- the lent book with the counts and entries of the save in it
 unfoldable pub lentLoaded : List ℕ → ℕ → ℕ → Lent → Lent

@@ -8,7 +8,7 @@ use lib.Seq.{slice, sets}
 use Rattle.cells.specs.Bytes.{pick}
 use Rattle.cells.specs.Little.{leAt, leBytes}
 use Rattle.cells.specs.Search.{allFrom}
-use Rattle.entry.specs.Stored.{lineWidth, slipWidth, arrivedAt}
+use Rattle.entry.specs.Stored.{lineWidth, slipWidth, messageAt}
 use Rattle.book.specs.Lent.{Lent, usedLines, usedSlips, sound}
 use Rattle.save.specs.Entries.{entriesKept}
 use Rattle.save.specs.declared.answer.Refused.{Refused}
@@ -31,9 +31,9 @@ slipKind = 2
 abbrev pub endKind : ℕ
 endKind = 0
 
--- the body of a line is the front of its entry in the book, without A; the body of a slip is its entry
+-- the body of a line is the front of its entry in the book, up to its mark, so without message, expected date and A; the body of a slip is its entry
 abbrev pub lineBodyWidth : ℕ
-lineBodyWidth = arrivedAt
+lineBodyWidth = messageAt
 
 abbrev pub slipBodyWidth : ℕ
 slipBodyWidth = slipWidth

@@ -21,14 +21,7 @@ use entry::key::REFERENCE_AT;
 use entry::key::SECOND_PARTY_AT;
 use entry::key::SECOND_QUALIFIER_AT;
 use entry::key::SLIP_NUMBER_AT;
-use entry::stored::ARRIVED_AT;
-use entry::stored::MARK_AT;
-use entry::stored::MOST_COPIES;
-use entry::stored::MOST_MARK;
-use entry::stored::ORDERED_AT;
-use entry::stored::SLIP_COPIES_AT;
-use entry::stored::SLIP_KEY_WIDTH;
-use entry::stored::SLIP_WIDTH;
+use entry::report::MOST_MARK;
 use rules::article::is_article;
 use rules::class::Class;
 use rules::class::all_of;
@@ -39,11 +32,20 @@ use rules::class::of_class;
 use rules::rule::Texts;
 use rules::rule::is_day;
 use rules::rule::is_one_of;
+use stored::MARK_AT;
+use stored::MESSAGE_AT;
+use stored::MOST_COPIES;
+use stored::ORDERED_AT;
+use stored::SLIP_COPIES_AT;
+use stored::SLIP_KEY_WIDTH;
+use stored::SLIP_WIDTH;
 
-// A byte of kind and a body: a line's is the front of its entry, without A; a slip's its entry.
+// A byte of kind and a body: a line's is the front of its entry up to its mark, so without message, expected date and A; a slip's its entry.
 pub const KIND_BYTE: usize = 1;
 
-pub const SAVED_LINE_WIDTH: usize = KIND_BYTE + ARRIVED_AT;
+pub const LINE_BODY_WIDTH: usize = MESSAGE_AT;
+
+pub const SAVED_LINE_WIDTH: usize = KIND_BYTE + LINE_BODY_WIDTH;
 
 pub const SAVED_SLIP_WIDTH: usize = KIND_BYTE + SLIP_WIDTH;
 
@@ -133,7 +135,7 @@ pub fn line_in(s: &[u8], i: usize) -> &[u8]
     ensures { λ r. ⌜ now r ≡ lineIn (now (s .entry)) i ⌝ }
 {
     let at = SAVED_LINE_WIDTH * i + KIND_BYTE;
-    let end = at + ARRIVED_AT;
+    let end = at + LINE_BODY_WIDTH;
     &s[at..end]
 }
 

@@ -1,4 +1,3 @@
 // The saved book: what saving and loading answer, and bytes judged as a save.
 pub mod answer;
 pub mod entries;
-pub mod judge;

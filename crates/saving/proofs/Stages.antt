@@ -1,5 +1,5 @@
 -- Saving and loading, stage by stage.
-use mathlib.Core.Path.{_≡_, _∙_, ap, sym, refl}
+use mathlib.Core.Path.{_≡_, _∙_, ap, sym}
 use mathlib.Core.Bool.{Bool, true, false, not, _&&_, _||_}
 use mathlib.Core.List.{List, _∷_, _++_}
 use Prim.Native.Nat.{ℕ, _+_, _*_, _≤_, _<_}
@@ -10,10 +10,11 @@ use lib.ListN.{length}
 use lib.Seq.{sets}
 use Rattle.cells.proofs.Stores.{sets-append}
 use Rattle.book.specs.Lent.{Lent, usedLines, usedSlips, lineRoom, slipRoom, sound, roomsSound}
-use Rattle.book.proofs.Sounds.{Sound, sound-so}
-use Rattle.save.specs.Saved.{Written, written, lineKind, slipKind, joinedFrom, lineBodyAt, slipBodyAt, lineEntries, slipEntries, endEntry, savedForm, savedWidth, endWidth, notSaved, save, statedLines, statedSlips, lineIn, slipIn, inForm, isSave}
+use Rattle.book.proofs.Sounds.{sound-so}
+use Rattle.entry.specs.Stored.{lineWidth}
+use Rattle.save.specs.Saved.{written, lineBodyWidth, savedLineWidth, savedSlipWidth, lineKind, slipKind, lineBodyAt, slipBodyAt, lineEntries, slipEntries, endEntry, savedForm, savedWidth, endWidth, notSaved, save, statedLines, statedSlips, lineIn, slipIn, inForm, isSave}
 use Rattle.save.specs.Entries.{entriesKept}
-use Rattle.save.specs.Load.{Outcome, outcome, lentLoaded, notLoaded, doneAs, load}
+use Rattle.save.specs.Load.{outcome, lentLoaded, notLoaded, doneAs, load}
 use Rattle.save.proofs.Forms.{form-long}
 use Rattle.cells.proofs.Bools.{split, and-left, and-right}
 use Rattle.save.specs.declared.answer.Refused.the-variants.{Unsound, NoSave, TooSmall}
@@ -38,7 +39,7 @@ module _ (b : Lent) (out : List ℕ) where
     save-done e = rw (h, le-leb (savedWidth (usedLines b) (usedSlips b)) (length out) e)
 
     -- lines, slips and the end stored one after the other are the saved form
-    pub form-stored : sets (sets (sets out 0 (lineEntries (b .lines) (usedLines b))) (53 * usedLines b) (slipEntries (b .slips) (usedSlips b))) (53 * usedLines b + 51 * usedSlips b) (endEntry (usedLines b) (usedSlips b))
+    pub form-stored : sets (sets (sets out 0 (lineEntries (b .lines) (usedLines b))) (savedLineWidth * usedLines b) (slipEntries (b .slips) (usedSlips b))) (savedLineWidth * usedLines b + savedSlipWidth * usedSlips b) (endEntry (usedLines b) (usedSlips b))
         ≡ sets out 0 (savedForm b)
     unfolding savedForm lineEntries slipEntries lineBodyAt slipBodyAt
     form-stored =
@@ -47,15 +48,15 @@ module _ (b : Lent) (out : List ℕ) where
         let m : ℕ = usedSlips b in
         let ls : List ℕ = lineEntries (b .lines) n in
         let ts : List ℕ = slipEntries (b .slips) m in
-        let l : length ls ≡ 53 * n = joined-length (λ i. lineKind ∷ lineBodyAt (b .lines) i) 53 n 0 (λ i x y. entry-long lineKind (56 * i) 52 (b .lines) (omega (arith, say .lines-in))) in
-        let t : length ts ≡ 51 * m = joined-length (λ j. slipKind ∷ slipBodyAt (b .slips) j) 51 m 0 (λ j x y. entry-long slipKind (50 * j) 50 (b .slips) (omega (arith, say .slips-in))) in
-        let at-slips : 0 + length ls ≡ 53 * n = omega (arith, l) in
-        let at-end : 53 * n + length ts ≡ 53 * n + 51 * m = omega (arith, t) in
+        let l : length ls ≡ savedLineWidth * n = joined-length (λ i. lineKind ∷ lineBodyAt (b .lines) i) 53 n 0 (λ i x y. entry-long lineKind (lineWidth * i) lineBodyWidth (b .lines) (omega (arith, say .lines-in))) in
+        let t : length ts ≡ savedSlipWidth * m = joined-length (λ j. slipKind ∷ slipBodyAt (b .slips) j) 51 m 0 (λ j x y. entry-long slipKind (50 * j) 50 (b .slips) (omega (arith, say .slips-in))) in
+        let at-slips : 0 + length ls ≡ savedLineWidth * n = omega (arith, l) in
+        let at-end : savedLineWidth * n + length ts ≡ savedLineWidth * n + savedSlipWidth * m = omega (arith, t) in
         sym
         (sets-append out 0 ls (ts ++ endEntry n m)
         ∙ ap (λ (k : ℕ). sets (sets out 0 ls) k (ts ++ endEntry n m)) at-slips
-        ∙ sets-append (sets out 0 ls) (53 * n) ts (endEntry n m)
-        ∙ ap (λ (k : ℕ). sets (sets (sets out 0 ls) (53 * n) ts) k (endEntry n m)) at-end)
+        ∙ sets-append (sets out 0 ls) (savedLineWidth * n) ts (endEntry n m)
+        ∙ ap (λ (k : ℕ). sets (sets (sets out 0 ls) (savedLineWidth * n) ts) k (endEntry n m)) at-end)
 
 -- too small a room is one that does not fit
 pub small-either : (n r m q : ℕ) → leb n r && leb m q ≡ not (ltb r n || ltb q m)
@@ -92,7 +93,7 @@ module _ (s : List ℕ) (b : Lent) where
       load-done f = rw (h, e, f)
 
 -- the end of a save, and the entries that it states, stand in it
-pub save-long : (s : List ℕ) → isSave s ≡ true → (endWidth ≤ length s) × (53 * statedLines s + 51 * statedSlips s ≤ length s)
+pub save-long : (s : List ℕ) → isSave s ≡ true → (endWidth ≤ length s) × (savedLineWidth * statedLines s + savedSlipWidth * statedSlips s ≤ length s)
 unfolding isSave
 save-long s e =
     let rest : Bool = inForm (statedLines s) (statedSlips s) s && entriesKept (statedLines s) (statedSlips s) (lineIn s) (slipIn s (statedLines s)) in

@@ -14,13 +14,11 @@ use crate::input::take_slips;
 use crate::output::put_end;
 use crate::output::put_lines;
 use crate::output::put_slips;
-use book::seek::MOST_LINES;
-use book::seek::MOST_SLIPS;
-use book::seek::is_room;
-use book::seek::is_sound;
 use cells::little::get2;
-use entry::stored::LINE_WIDTH;
-use entry::stored::SLIP_WIDTH;
+use finding::seek::MOST_LINES;
+use finding::seek::MOST_SLIPS;
+use finding::seek::is_room;
+use finding::seek::is_sound;
 use save::answer::Loaded;
 use save::answer::Refused;
 use save::answer::Saved;
@@ -28,10 +26,12 @@ use save::answer::not_loaded;
 use save::answer::not_saved;
 use save::entries::SAVED_LINE_WIDTH;
 use save::entries::SAVED_SLIP_WIDTH;
-use save::judge::END_WIDTH;
-use save::judge::LINES_BACK;
-use save::judge::SLIPS_BACK;
-use save::judge::is_save;
+use saved::END_WIDTH;
+use saved::LINES_BACK;
+use saved::SLIPS_BACK;
+use saved::is_save;
+use stored::LINE_WIDTH;
+use stored::SLIP_WIDTH;
 
 // Saves a lent book at the front of the output: 20, 23. A refusal changes nothing.
 pub fn save(lines: &[u8], slips: &[u8], used: &[usize; 2], out: &mut [u8]) -> Saved

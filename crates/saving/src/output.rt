@@ -8,14 +8,14 @@ ghost use Rattle.entry.specs.Stored.{lineWidth, slipWidth};
 ghost use Rattle.save.specs.Saved.{savedLineWidth, savedSlipWidth, endWidth, lineEntries, slipEntries, endEntry};
 use cells::little::put2;
 use cells::paste_at;
-use entry::stored::ARRIVED_AT;
-use entry::stored::LINE_WIDTH;
-use entry::stored::SLIP_WIDTH;
+use save::entries::LINE_BODY_WIDTH;
 use save::entries::SAVED_LINE_WIDTH;
 use save::entries::SAVED_SLIP_WIDTH;
-use save::judge::END_KIND;
-use save::judge::LINE_KIND;
-use save::judge::SLIP_KIND;
+use saved::END_KIND;
+use saved::LINE_KIND;
+use saved::SLIP_KIND;
+use stored::LINE_WIDTH;
+use stored::SLIP_WIDTH;
 
 // An entry: a byte of kind, then a body.
 fn put_entry(out: &mut [u8], at: usize, kind: u8, body: &[u8])
@@ -26,7 +26,7 @@ fn put_entry(out: &mut [u8], at: usize, kind: u8, body: &[u8])
     paste_at(out, at + 1, body);
 }
 
-// The used lines, from the front on: a byte of kind, then all of the line but A.
+// The used lines, from the front on: a byte of kind, then the line up to its mark.
 pub fn put_lines(out: &mut [u8], lines: &[u8], n: usize)
     requires { ⌜ (lineWidth * n ≤ length (now lines)) × (savedLineWidth * n ≤ length (now out)) ⌝ }
     ensures { λ _. ⌜ now (out .exit) ≡ sets (now (out .entry)) 0 (lineEntries (now (lines .entry)) n) ⌝ }
@@ -35,7 +35,7 @@ pub fn put_lines(out: &mut [u8], lines: &[u8], n: usize)
     while i < n {
         let at = SAVED_LINE_WIDTH * i;
         let from = LINE_WIDTH * i;
-        let end = from + ARRIVED_AT;
+        let end = from + LINE_BODY_WIDTH;
         put_entry(out, at, LINE_KIND, &lines[from..end]);
         i += 1;
     }

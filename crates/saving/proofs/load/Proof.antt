@@ -1,12 +1,13 @@
 -- `saving::load` meets its contract, stage by stage.
 use mathlib.Core.Path.{_≡_, _∙_, ap, ap₂, sym}
-use mathlib.Core.Bool.{Bool, true, false, not, _&&_, _||_}
-use Prim.Native.Nat.{_+_, _*_, _/_, _≤_}
+use mathlib.Core.Bool.{Bool, true, not, _&&_, _||_}
+use Prim.Native.Nat.{_/_, _≤_}
 use native.Mathlib.Omega.{arith}
 use lib.Dec.{ltb, leb}
 use lib.ListN.{length}
 use borrow.Author.Tests.{leb-true}
 use Rattle.cells.proofs.Bools.{is-not, is-so, and-left, and-right}
+use Rattle.entry.specs.Stored.{lineWidth, slipWidth}
 use Rattle.book.specs.Lent.{lent, lineRoom, slipRoom, roomsSound}
 use Rattle.save.specs.Saved.{statedLines, statedSlips, isSave}
 use Rattle.saving.proofs.Stages.{small-either, load-unsound, load-no-save, load-small, load-done, save-long}
@@ -40,11 +41,11 @@ slips-read c = c .get22 .ensures .is
 -- whether they fit, as the code tests it
 fits : (c : tie.After-get22) → let a = c .before .before .before .before .before .before .before .before .before .before .args in
     leb (statedLines (a .saved .now)) (lineRoom (lent (a .lines .now) (a .slips .now) (a .used .now))) && leb (statedSlips (a .saved .now)) (slipRoom (lent (a .lines .now) (a .slips .now) (a .used .now)))
-    ≡ not (ltb (length (a .lines .now) / 56) (c .before .get2 .result) || ltb (length (a .slips .now) / 50) (c .get22 .result))
+    ≡ not (ltb (length (a .lines .now) / lineWidth) (c .before .get2 .result) || ltb (length (a .slips .now) / slipWidth) (c .get22 .result))
 unfolding lineRoom slipRoom
 fits c =
     let a = c .before .before .before .before .before .before .before .before .before .before .args in
-    rw (lines-read (c .before), slips-read c) (small-either (statedLines (a .saved .now)) (length (a .lines .now) / 56) (statedSlips (a .saved .now)) (length (a .slips .now) / 50))
+    rw (lines-read (c .before), slips-read c) (small-either (statedLines (a .saved .now)) (length (a .lines .now) / lineWidth) (statedSlips (a .saved .now)) (length (a .slips .now) / slipWidth))
 
 is-room-requires : tie.Need-is-room-requires
 is-room-requires c κs = search needs
@@ -104,8 +105,8 @@ fill-requires c κs =
     let both = fits read ∙ ap not (else .if3 .left) in
     let n = lines-read (read .before) in
     let m = slips-read read in
-    let few : statedLines (a .saved .now) ≤ length (a .lines .now) / 56 = leb-true _ _ (and-left _ _ both) in
-    let few-slips : statedSlips (a .saved .now) ≤ length (a .slips .now) / 50 = leb-true _ _ (and-right (leb (statedLines (a .saved .now)) (length (a .lines .now) / 56)) _ both) in
+    let few : statedLines (a .saved .now) ≤ length (a .lines .now) / lineWidth = leb-true _ _ (and-left _ _ both) in
+    let few-slips : statedSlips (a .saved .now) ≤ length (a .slips .now) / slipWidth = leb-true _ _ (and-right (leb (statedLines (a .saved .now)) (length (a .lines .now) / lineWidth)) _ both) in
     let long = save-long (a .saved .now) (is-saved saved) .1 in
     (omega arith, read .get22 .ensures .small, omega arith, omega arith)
 

@@ -7,7 +7,8 @@ use native.Mathlib.Nat.{sub-zero}
 use lib.ListN.{length}
 use lib.Seq.{sets}
 use Rattle.cells.proofs.Parts.{part-is}
-use Rattle.save.specs.Saved.{lineKind, joinedFrom, lineBodyAt, lineEntries}
+use Rattle.entry.specs.Stored.{lineWidth}
+use Rattle.save.specs.Saved.{lineBodyWidth, savedLineWidth, lineKind, joinedFrom, lineBodyAt, lineEntries}
 use Rattle.save.proofs.Joined.{joined-next, joined-end}
 use Rattle.saving.proofs.Entries.{entry-long}
 use borrow.Author.Needs.{needs}
@@ -18,7 +19,7 @@ abbrev Inv-loop : tie.InvT-loop
 Inv-loop out₀ lines n i₀ out i =
     (i ≤ n)
     × (length out ≡ length out₀)
-    × (sets out₀ 0 (lineEntries lines n) ≡ sets out (53 * i) (joinedFrom (λ k. lineKind ∷ lineBodyAt lines k) (n - i) i))
+    × (sets out₀ 0 (lineEntries lines n) ≡ sets out (savedLineWidth * i) (joinedFrom (λ k. lineKind ∷ lineBodyAt lines k) (n - i) i))
 
 abbrev μ-loop : tie.MeasureT-loop
 μ-loop out₀ lines n i₀ out i = n - i
@@ -60,11 +61,11 @@ loop-again c =
     let put = c .before .before in
     let l = put .before .before .before .before .loop in
     let a = put .before .before .before .before .before .before .before .args in
-    let long = entry-long lineKind (56 * l .i) 52 (a .lines .now) (omega arith) in
-    let at : 53 * l .i + (52 + 1) ≡ 53 * (l .i + 1) = omega arith in (
+    let long = entry-long lineKind (lineWidth * l .i) lineBodyWidth (a .lines .now) (omega arith) in
+    let at : savedLineWidth * l .i + (lineBodyWidth + 1) ≡ savedLineWidth * (l .i + 1) = omega arith in (
       omega arith,
       search needs,
-      l .inv .2 ∙ (joined-next (λ k. lineKind ∷ lineBodyAt (a .lines .now) k) (a .n) (l .i) (l .out) (53 * l .i) (52 + 1) (omega arith) long ∙ rw (at, put .put-entry .ensures, part-is (56 * l .i) (56 * l .i + 52) (a .lines .now) (omega arith))),
+      l .inv .2 ∙ (joined-next (λ k. lineKind ∷ lineBodyAt (a .lines .now) k) (a .n) (l .i) (l .out) (savedLineWidth * l .i) (lineBodyWidth + 1) (omega arith) long ∙ rw (at, put .put-entry .ensures, part-is (lineWidth * l .i) (lineWidth * l .i + lineBodyWidth) (a .lines .now) (omega arith))),
     )
 
 same-length : tie.Need-same-length Inv-loop μ-loop
