@@ -1,8 +1,11 @@
 // The desk program: books the records on standard input into rooms for 256 lines and 512 slips, and prints one line each.
 ghost use mathlib.Core.Path.{_≡_};
-ghost use Rattle.desk.specs.Printed.{kindLetter};
+ghost use Prim.Native.Nat.{_≤_};
+ghost use Rattle.entry.specs.Report.{mostMessage};
+ghost use Rattle.desk.specs.Printed.{kindLetter, isMessage, messageDigits};
 use cells::part;
 use entry::line::Figures;
+use entry::report::MOST_MESSAGE;
 use feed::Held;
 use feed::ended_length;
 use feed::ends;
@@ -16,8 +19,8 @@ use own::book_own;
 
 const UNKNOWN: u8 = b'?';
 
-// 256 lines of 56 bytes, 512 slips of 50.
-const LINES_ROOM: usize = 14336;
+// 256 lines of 66 bytes, 512 slips of 50.
+const LINES_ROOM: usize = 16896;
 
 const SLIPS_ROOM: usize = 25600;
 
@@ -63,6 +66,34 @@ fn letter(b: u8) {
     text(&s);
 }
 
+// Whether there is a message to print: the record was booked, and the line's last report has one.
+fn is_message(answer: u64, message: u64) -> bool
+    ensures { λ r. ⌜ r ≡ isMessage answer message ⌝ }
+{
+    (answer == 0) & (message <= MOST_MESSAGE)
+}
+
+// The three digits of a message.
+fn message_digits(n: u64) -> [u8; 3]
+    requires { ⌜ n ≤ mostMessage ⌝ }
+    ensures { λ r. ⌜ r ≡ messageDigits n ⌝ }
+{
+    let hundreds = (n / 100) as u8;
+    let tens = (n / 10 % 10) as u8;
+    let ones = (n % 10) as u8;
+    [b'0' + hundreds, b'0' + tens, b'0' + ones]
+}
+
+// The last message as three digits, or a hyphen where there is none.
+fn show_message(answer: u64, message: u64) {
+    text(b" ");
+    if is_message(answer, message) {
+        text(&message_digits(message));
+        return;
+    }
+    text(b"-");
+}
+
 fn show_figures(f: Figures) {
     next(f.ordered.0);
     next(f.filled.0);
@@ -83,10 +114,12 @@ fn following(n: u64) -> u64 {
 fn answer(n: u64, s: &[u8], lines: &mut [u8], slips: &mut [u8], used: &mut [usize; 2]) {
     let booked = book_own(s, lines, slips, used);
     let figures = booked.figures;
+    let reported = booked.reported;
     number(n);
     letter(kind_letter(booked.answer, s));
     next(booked.answer);
     show_figures(figures);
+    show_message(booked.answer, reported.message);
     text(b"\n");
 }
 

@@ -6,7 +6,8 @@ use Rattle.cells.specs.Search.{firstFrom, allFrom, sumFrom}
 use Rattle.roster.specs.Roster.{entries, rosterSound, accountAt, accountIs, ceilingAt, findAccount, standingAt, standing}
 use Rattle.rules.specs.Class.{belongs, allOf, ofClass, padded, named}
 use Rattle.rules.specs.Number.{numberFrom}
-use Rattle.rules.specs.Day.{leap, monthDays, realDay, dayOf, isDay}
+use Rattle.rules.specs.Day.{leap, monthDays, realDay, dayOf, isDay, dated}
+use Rattle.rules.specs.Values.{expectedOf}
 use Rattle.rules.specs.Article.{checkValue, weighted, gs1, isbn, seriesVolume, article}
 use Rattle.rules.specs.Rule.{texts, dayCount, expected, keeps}
 use Rattle.record.specs.Layout.{layout, total, fixedWidth, startOf, kindOf, firstBroken}
@@ -17,18 +18,20 @@ use Rattle.record.specs.Values.{fieldBytes}
 use Rattle.record.specs.Read.{bytesJudged, fixedJudged, afterWalk, optionalJudged, kindJudged, judged, optionalStart, tableAfter, check}
 use Rattle.record.specs.Samples.{X, Y, Z, cases, firstWrong}
 use Rattle.record.specs.Edges.{fullTable}
-use Rattle.entry.specs.Line.{markByte, withMark, withArrivals, openOf, letGoOf, filledOf, figuresOf}
-use Rattle.entry.specs.Stored.{lineAt, lineBytes, putLine, addLine, keyAt, keyIs, articleAt, articleIs, schoolAt, schoolIs, openAt, lineSound, slipKeyAt, slipIs, slipLineAt, slipCopiesAt, addSlip, slipSound}
+use Rattle.entry.specs.Report.{messageOf, messageNumber, formOf, dayOn, reportTold, reportSound}
+use Rattle.entry.specs.Line.{markByte, newLine, withReport, withArrivals, openOf, letGoOf, filledOf, figuresOf, reportedOf}
+use Rattle.entry.specs.Stored.{dateAt, lineAt, putIn, putArrived, reportBytes, putReport, newBytes, addLine, keyAt, keyIs, articleAt, articleIs, schoolAt, schoolIs, openAt, lineSound, slipKeyAt, slipIs, slipLineAt, slipCopiesAt, addSlip, slipSound}
 use Rattle.book.specs.Lent.{usedLines, usedSlips, lineRoom, slipRoom, roomSound, sound, findLine, findSlip, openCopies, roomsSound}
-use Rattle.book.specs.Booking.{refusedNumber, refusedPlace, keyFields, lineKey, articleFields, articleIn, schoolIn, slipKey, copiesIn, nothingToBook, noCopies, noReference, markIn, newLineJudged, orderJudged, slipJudged, arrivalJudged, goodsJudged, deliveryJudged, reportJudged, bookJudged, onRoster, fitJudged, newLine, lineAfter, lentAfter, refusedAs, doneAs, agreedAt, agreedAs, enteredAs, settled, bookAs, bookKind, bookRead, book}
+use Rattle.book.specs.Booking.{refusedNumber, refusedPlace, keyFields, lineKey, articleFields, articleIn, schoolIn, slipKey, copiesIn, nothingToBook, noCopies, noReference, markIn, messageIn, dateIn, newLineJudged, orderJudged, slipJudged, arrivalJudged, goodsJudged, deliveryJudged, reportJudged, bookJudged, onRoster, fitJudged, lineAfter, lentAfter, refusedAs, doneAs, agreedAt, agreedAs, enteredAs, settled, bookAs, bookKind, bookRead, book}
 use Rattle.book.specs.Asked.{areWide, figuresAt, figuresOfKey, lineAsked}
 use Rattle.book.specs.Cases.{roomy, schools, withBoth, desk, sample, sampleSays, others, othersSay, says, unsound, answersTo, unsoundSays, asked, askedSay}
 use Rattle.book.specs.Pairs.{trials, rosterTrials, firstWrong as trialWrong}
+use Rattle.book.specs.Reports.{tellings, firstUntold, begun, states, firstUnsaid}
 use Rattle.book.specs.Articles.{namings, firstWrong as namingWrong, ownSample}
 
 -- the line that X adds, asked for by its key
 calls-by-key : asked (book X schools (roomy 1 1) .lent) ≡ askedSay
-unfolding all any run same among leAt leBytes belongs allOf ofClass padded named numberFrom leap monthDays realDay dayOf isDay checkValue weighted gs1 isbn seriesVolume article texts dayCount expected keeps layout total fixedWidth startOf kindOf firstBroken contents isIn ruleIn contentRule guardedIds guarded contentKept groups firstOf nextIn previousIn groupWith nextMember previousMember isWanted groupKept refusalNumber refusalPlace checkedOf _then_ headOf idIn idOf contentWidth contentOf fieldWidth afterField onHead atField walk judge fieldBytes bytesJudged fixedJudged afterWalk optionalJudged kindJudged judged markByte withMark withArrivals openOf letGoOf filledOf figuresOf lineAt lineBytes putLine addLine keyAt keyIs articleAt articleIs schoolAt schoolIs openAt lineSound slipKeyAt slipIs slipLineAt slipCopiesAt addSlip slipSound usedLines usedSlips lineRoom slipRoom roomSound roomsSound firstFrom allFrom sumFrom sound rosterSound entries accountAt accountIs ceilingAt findAccount standingAt standing findLine findSlip openCopies refusedNumber refusedPlace joined keyFields lineKey articleFields articleIn schoolIn slipKey copiesIn nothingToBook noCopies noReference markIn newLineJudged orderJudged slipJudged arrivalJudged goodsJudged deliveryJudged reportJudged bookJudged onRoster fitJudged newLine lineAfter lentAfter refusedAs doneAs agreedAt agreedAs enteredAs settled bookAs bookKind bookRead book areWide figuresAt figuresOfKey lineAsked asked askedSay
+unfolding all any run same among leAt leBytes belongs allOf ofClass padded named numberFrom leap monthDays realDay dayOf isDay dated expectedOf checkValue weighted gs1 isbn seriesVolume article texts dayCount expected keeps layout total fixedWidth startOf kindOf firstBroken contents isIn ruleIn contentRule guardedIds guarded contentKept groups firstOf nextIn previousIn groupWith nextMember previousMember isWanted groupKept refusalNumber refusalPlace checkedOf _then_ headOf idIn idOf contentWidth contentOf fieldWidth afterField onHead atField walk judge fieldBytes bytesJudged fixedJudged afterWalk optionalJudged kindJudged judged messageOf messageNumber formOf dayOn reportTold reportSound markByte newLine withReport withArrivals openOf letGoOf filledOf figuresOf reportedOf dateAt lineAt putIn putArrived reportBytes putReport newBytes addLine keyAt keyIs articleAt articleIs schoolAt schoolIs openAt lineSound slipKeyAt slipIs slipLineAt slipCopiesAt addSlip slipSound usedLines usedSlips lineRoom slipRoom roomSound roomsSound firstFrom allFrom sumFrom sound rosterSound entries accountAt accountIs ceilingAt findAccount standingAt standing findLine findSlip openCopies refusedNumber refusedPlace joined keyFields lineKey articleFields articleIn schoolIn slipKey copiesIn nothingToBook noCopies noReference markIn messageIn dateIn newLineJudged orderJudged slipJudged arrivalJudged goodsJudged deliveryJudged reportJudged bookJudged onRoster fitJudged lineAfter lentAfter refusedAs doneAs agreedAt agreedAs enteredAs settled bookAs bookKind bookRead book areWide figuresAt figuresOfKey lineAsked asked askedSay
 calls-by-key = refl
 
 pub record Computed : Type 0 where
@@ -48,7 +51,10 @@ pub record Computed : Type 0 where
   -- articles that agree and that do not, and a day on which the supplier answers with its own number
   pub articles : namingWrong 1 namings ≡ 0
   pub own-numbers : desk (roomy 2 4) ownSample ≡ sampleSays
+  -- last reports as bookings tell them, and the states of a line that are sound
+  pub reports : firstUntold 1 begun tellings ≡ 0
+  pub reported : firstUnsaid 1 states ≡ 0
 
 pub computed : Computed
-unfolding all any run same among leAt leBytes belongs allOf ofClass padded named numberFrom leap monthDays realDay dayOf isDay checkValue weighted gs1 isbn seriesVolume article texts dayCount expected keeps layout total fixedWidth startOf kindOf firstBroken contents isIn ruleIn contentRule guardedIds guarded contentKept groups firstOf nextIn previousIn groupWith nextMember previousMember isWanted groupKept refusalNumber refusalPlace checkedOf _then_ headOf idIn idOf contentWidth contentOf fieldWidth afterField onHead atField walk judge fieldBytes bytesJudged fixedJudged afterWalk optionalJudged kindJudged judged entriesOf optionalStart tableAfter check fullTable cases firstWrong markByte withMark withArrivals openOf letGoOf filledOf figuresOf lineAt lineBytes putLine addLine keyAt keyIs articleAt articleIs schoolAt schoolIs openAt lineSound slipKeyAt slipIs slipLineAt slipCopiesAt addSlip slipSound usedLines usedSlips lineRoom slipRoom roomSound roomsSound firstFrom allFrom sumFrom sound rosterSound entries accountAt accountIs ceilingAt findAccount standingAt standing findLine findSlip openCopies refusedNumber refusedPlace joined keyFields lineKey articleFields articleIn schoolIn slipKey copiesIn nothingToBook noCopies noReference markIn newLineJudged orderJudged slipJudged arrivalJudged goodsJudged deliveryJudged reportJudged bookJudged onRoster fitJudged newLine lineAfter lentAfter refusedAs doneAs agreedAt agreedAs enteredAs settled bookAs bookKind bookRead book desk sample sampleSays others othersSay unsound answersTo unsoundSays trials rosterTrials trialWrong namings namingWrong ownSample
-computed = record { samples = refl; desk-sample = refl; desk-others = refl; broken = refl; keyed = calls-by-key; entered = refl; ordered = refl; rosters = refl; articles = refl; own-numbers = refl }
+unfolding all any run same among leAt leBytes belongs allOf ofClass padded named numberFrom leap monthDays realDay dayOf isDay dated expectedOf checkValue weighted gs1 isbn seriesVolume article texts dayCount expected keeps layout total fixedWidth startOf kindOf firstBroken contents isIn ruleIn contentRule guardedIds guarded contentKept groups firstOf nextIn previousIn groupWith nextMember previousMember isWanted groupKept refusalNumber refusalPlace checkedOf _then_ headOf idIn idOf contentWidth contentOf fieldWidth afterField onHead atField walk judge fieldBytes bytesJudged fixedJudged afterWalk optionalJudged kindJudged judged entriesOf optionalStart tableAfter check fullTable cases firstWrong messageOf messageNumber formOf dayOn reportTold reportSound markByte newLine withReport withArrivals openOf letGoOf filledOf figuresOf reportedOf dateAt lineAt putIn putArrived reportBytes putReport newBytes addLine keyAt keyIs articleAt articleIs schoolAt schoolIs openAt lineSound slipKeyAt slipIs slipLineAt slipCopiesAt addSlip slipSound usedLines usedSlips lineRoom slipRoom roomSound roomsSound firstFrom allFrom sumFrom sound rosterSound entries accountAt accountIs ceilingAt findAccount standingAt standing findLine findSlip openCopies refusedNumber refusedPlace joined keyFields lineKey articleFields articleIn schoolIn slipKey copiesIn nothingToBook noCopies noReference markIn messageIn dateIn newLineJudged orderJudged slipJudged arrivalJudged goodsJudged deliveryJudged reportJudged bookJudged onRoster fitJudged lineAfter lentAfter refusedAs doneAs agreedAt agreedAs enteredAs settled bookAs bookKind bookRead book desk sample sampleSays others othersSay unsound answersTo unsoundSays trials rosterTrials trialWrong namings namingWrong ownSample areWide figuresAt figuresOfKey lineAsked tellings firstUntold states firstUnsaid
+computed = record { samples = refl; desk-sample = refl; desk-others = refl; broken = refl; keyed = calls-by-key; entered = refl; ordered = refl; rosters = refl; articles = refl; own-numbers = refl; reports = refl; reported = refl }
