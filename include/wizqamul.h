@@ -3,8 +3,8 @@
  * One desk orders books for many schools. Orders (B101) go out to wholesalers; deliveries
  * (L101) and reports (M101) come back mixed. The library reads and writes these records,
  * books them into one shared book, for the schools of a roster alone, and tells for each
- * order line how many copies are ordered, filled, open, let go or extra. The book can be
- * saved as bytes and loaded again.
+ * order line how many copies are ordered, filled, open, let go or extra, and what its last
+ * report said. The book can be saved as bytes and loaded again.
  *
  * It opens no files, takes no memory of its own and keeps nothing between two calls: you
  * lend it all bytes for the length of one call. No call asks anything of you except that
@@ -210,7 +210,10 @@ extern "C" {
  * entries. An empty book is any room with used {0, 0}. What stands past the used entries
  * is never looked at. Numbers in entries are unsigned, lowest byte first.
  * A book is sound if the used counts fit the room, each used slip names a used line, and
- * each used line has 1 to 9,999 ordered, at most 9,999,999 arrived and a mark of 0 to 2.
+ * each used line has 1 to 9,999 ordered, at most 9,999,999 arrived, and one of these:
+ *   mark 0          message WQ_NO_REPORT       expected date eight blanks
+ *   mark 1 or 2     message WQ_MESSAGE_UNKNOWN expected date eight blanks
+ *   mark 1 or 2     message 0 to 999           expected date a day, eight zeros or eight blanks
  * Where keys repeat, the first entry counts. */
 #define WQ_MOST_LINES 512
 #define WQ_MOST_SLIPS 1024
@@ -229,8 +232,9 @@ extern "C" {
 #define WQ_POSITION_WIDTH 4
 
 /* A line: where each part starts in its entry. The first 34 bytes are its key; the article
- * and its qualifier, as the order had them, stand after it. */
-#define WQ_LINE_WIDTH 56
+ * and its qualifier, as the order had them, stand after it; then the copies ordered and what
+ * the last report said. */
+#define WQ_LINE_WIDTH 66
 #define WQ_LINE_KEY_WIDTH 34
 #define WQ_LINE_SCHOOL 0
 #define WQ_LINE_SCHOOL_QUALIFIER 10
@@ -241,13 +245,27 @@ extern "C" {
 #define WQ_LINE_ARTICLE_QUALIFIER 47
 #define WQ_LINE_ORDERED 49       /* 2 bytes: copies ordered */
 #define WQ_LINE_MARK 51          /* 1 byte: the last report's hold mark */
-#define WQ_LINE_ARRIVED 52       /* 4 bytes: sum of the line's slips */
+#define WQ_LINE_MESSAGE 52       /* 2 bytes: the last report's message number */
+#define WQ_LINE_EXPECTED 54      /* 8 bytes: its expected date, as the record had it */
+#define WQ_LINE_ARRIVED 62       /* 4 bytes: sum of the line's slips */
 #define WQ_LINE_ORDERED_WIDTH 2
 #define WQ_LINE_MARK_WIDTH 1
+#define WQ_LINE_MESSAGE_WIDTH 2
+#define WQ_LINE_EXPECTED_WIDTH 8
 #define WQ_LINE_ARRIVED_WIDTH 4
 #define WQ_MARK_NONE 0           /* no report so far */
 #define WQ_MARK_HELD 1           /* J: the supplier holds the order open */
 #define WQ_MARK_LET_GO 2         /* N: the supplier lets the rest go */
+
+/* A message: a number of 0 to 999 (000 is a message like any other), or one of these. */
+#define WQ_MOST_MESSAGE 999
+#define WQ_NO_REPORT 65535       /* no report so far */
+#define WQ_MESSAGE_UNKNOWN 65534 /* a report came, but the book was loaded since */
+
+/* An expected date: which of its three forms it has. */
+#define WQ_EXPECTED_DAY 1
+#define WQ_EXPECTED_ZEROS 2
+#define WQ_EXPECTED_BLANKS 3
 
 /* A slip: where each part starts in its entry. The first 46 bytes are its key. */
 #define WQ_SLIP_WIDTH 50
@@ -266,7 +284,8 @@ extern "C" {
 
 /* ---- The saved book -------------------------------------------------------------------
  * Lines, then slips, in book order, then the end. Each entry is one byte of kind and a
- * body: a line's first 52 bytes, a slip's 50 bytes, or used lines (2) and used slips (2). */
+ * body: a line's first 52 bytes (so neither message nor expected date), a slip's 50 bytes, or
+ * used lines (2) and used slips (2). */
 #define WQ_SAVE_END 0
 #define WQ_SAVE_LINE 1
 #define WQ_SAVE_SLIP 2
@@ -312,8 +331,8 @@ extern "C" {
 typedef struct { uint64_t answer, place, fields; } wq_checked;
 typedef struct { uint64_t answer, place, length; } wq_written;
 typedef struct { uint64_t answer, place, parts; } wq_parts_read;
-typedef struct { uint64_t answer, place, ordered, filled, still_open, let_go, extra, agreed; } wq_booked;
-typedef struct { uint64_t answer, place, ordered, filled, still_open, let_go, extra; } wq_told;
+typedef struct { uint64_t answer, place, ordered, filled, still_open, let_go, extra, agreed, message, expected, year, month, day; } wq_booked;
+typedef struct { uint64_t answer, place, ordered, filled, still_open, let_go, extra, message, expected, year, month, day; } wq_told;
 typedef struct { uint64_t answer, place, length; } wq_saved;
 typedef struct { uint64_t answer, place; } wq_loaded;
 typedef struct { uint64_t answer, place, ceiling; } wq_account_told;
@@ -375,10 +394,10 @@ wq_parts_read wq_parts(const uint8_t *record, size_t record_length, uint8_t *par
  *   that breaks the rule of its field) is 9 at that field's index among all fields. */
 wq_written wq_write_parts(const uint8_t *fixed, size_t fixed_length, const size_t *table, size_t table_length, size_t fields, const uint8_t *contents, size_t contents_length, const uint8_t *parts, size_t parts_length, size_t count, uint8_t *out, size_t out_length);
 
-/* Books one record for a school of the roster and gives its line's figures. An order adds a
- * line and 1 to used[0]; a delivery adds a slip and 1 to used[1], and adds its copies to its
- * line's arrived; a report sets its line's mark. Nothing else changes; the record and the
- * roster never do.
+/* Books one record for a school of the roster and gives its line's figures, and what the
+ * line's last report said. An order adds a line and 1 to used[0]; a delivery adds a slip and
+ * 1 to used[1], and adds its copies to its line's arrived; a report sets its line's mark,
+ * message and expected date. Nothing else changes; the record and the roster never do.
  * A line is found by school, supplier and reference alone, since a supplier may answer with
  * its own number for a title.
  *   filled      the smaller of ordered and arrived
@@ -387,8 +406,12 @@ wq_written wq_write_parts(const uint8_t *fixed, size_t fixed_length, const size_
  *   still_open  ordered minus filled where the last mark is not N, else 0
  *   agreed      1 where the record's article and its qualifier are both those that stand in
  *               the line, byte for byte, else 0; for an order 1
+ *   message     the last report's message number, 0 to 999; WQ_NO_REPORT where none came,
+ *               WQ_MESSAGE_UNKNOWN where the book was loaded since it came
+ *   expected    which form its expected date has: WQ_EXPECTED_DAY, _ZEROS or _BLANKS
+ *   year, month, day   the expected day; 0 where it is none
  * A delivery after an N still fills. A record booked twice changes nothing the second time
- * (14, 17), but a report sets its mark each time. An order for a reference that a line has is
+ * (14, 17), but a report sets what it says each time. An order for a reference that a line has is
  * 14, and a slip that comes again is 17, whatever the article.
  * An order is refused (25) where the open copies of all used lines of its school and its own
  * quantity together are above the school's ceiling. A report that opens copies again is never
@@ -399,20 +422,23 @@ wq_written wq_write_parts(const uint8_t *fixed, size_t fixed_length, const size_
  * 18, 16, 21, 19; for a report 16. */
 wq_booked wq_book(const uint8_t *record, size_t record_length, const uint8_t *roster, size_t roster_length, uint8_t *lines, size_t lines_length, uint8_t *slips, size_t slips_length, size_t *used);
 
-/* Gives the figures of the line with this key. The five key fields have the widths above,
- * filled with blanks; one of another length matches no line. Changes nothing.
+/* Gives the figures of the line with this key, and what its last report said, as wq_book
+ * gives them. The five key fields have the widths above, filled with blanks; one of another
+ * length matches no line. Changes nothing.
  * Refusals: 20, then 16. */
 wq_told wq_line(const uint8_t *school, size_t school_length, const uint8_t *school_qualifier, size_t school_qualifier_length, const uint8_t *supplier, size_t supplier_length, const uint8_t *supplier_qualifier, size_t supplier_qualifier_length, const uint8_t *reference, size_t reference_length, const uint8_t *lines, size_t lines_length, const uint8_t *slips, size_t slips_length, const size_t *used);
 
 /* Saves the book: writes WQ_SAVE_LENGTH(used[0], used[1]) bytes to `out` and gives that
  * `length`. The rest of `out` and the book never change. It takes every sound book; a book
- * made by bookings from an empty one loads again with equal counts and used entries.
+ * made by bookings from an empty one loads again with equal counts and used entries, but for
+ * message and expected date, which are not saved.
  * Refusals: 20, then 23 where `out` is too small. */
 wq_saved wq_save(const uint8_t *lines, size_t lines_length, const uint8_t *slips, size_t slips_length, const size_t *used, uint8_t *out, size_t out_length);
 
 /* Loads a save: replaces used[0] and used[1] and fills the entries they count; each line's
- * arrived is the sum of its slips. Entries past them and the saved bytes never change. What
- * the book held before is not judged and is lost.
+ * arrived is the sum of its slips, its message WQ_MESSAGE_UNKNOWN where it has a mark, else
+ * WQ_NO_REPORT, and its expected date eight blanks. Entries past them and the saved bytes
+ * never change. What the book held before is not judged and is lost.
  * Each key is compared with those before it, and the slips of each line are looked for
  * among all slips, so the time grows as lines squared plus slips squared: about a
  * millisecond for a full book (docs/PERFORMANCE.md). A save of more lines or slips than any
