@@ -22,41 +22,46 @@
 enum {
     /* 40 repetitions of each side in all */
     PASSES = 10, REPETITIONS = 4, LEAST_NANOSECONDS = 2000000,
-    MOST_RECORDS = 64, FILE_ROOM = 65536, LONGEST = 1024, FULL_TABLE = 288, TEXT = 128,
-    ORDER_LENGTH = 67, DELIVERY_LENGTH = 108, REPORT_LENGTH = 79,
-    ADDRESS = 10, QUALIFIER = 2, NAME = 10,
-    SUPPLIER_PLACE = ADDRESS + QUALIFIER, REFERENCE_PLACE = 2 * SUPPLIER_PLACE,
-    LINE = 56, SLIP = 50, SAVED_LINE = 53, SAVED_SLIP = 51, SAVED_END = 5,
+    MOST_RECORDS = 64, FILE_ROOM = 65536, LONGEST = WQ_MOST_RECORD, FULL_TABLE = WQ_FULL_TABLE,
+    TEXT = 128,
+    ORDER_LENGTH = WQ_ORDER_LENGTH, DELIVERY_LENGTH = WQ_DELIVERY_LENGTH,
+    REPORT_LENGTH = WQ_REPORT_LENGTH,
+    ADDRESS = WQ_ADDRESS_WIDTH, QUALIFIER = WQ_QUALIFIER_WIDTH, NAME = WQ_REFERENCE_WIDTH,
+    SUPPLIER_PLACE = WQ_LINE_SUPPLIER, REFERENCE_PLACE = WQ_LINE_REFERENCE,
+    LINE = WQ_LINE_WIDTH, SLIP = WQ_SLIP_WIDTH,
     SCHOOLS = 30, MIDDLE = SCHOOLS / 2, MOST_SCHOOLS = 64,
     MOST_LINES = 512, MOST_SLIPS = 2 * MOST_LINES, POSITIONS_ON_A_SLIP = 8,
-    SAVE_ROOM = MOST_LINES * SAVED_LINE + MOST_SLIPS * SAVED_SLIP + SAVED_END,
+    SAVE_ROOM = WQ_SAVE_LENGTH(MOST_LINES, MOST_SLIPS),
     TAX_MARK = 107, FIELD_HEAD = 5, LOOP = 10, MOST_PARTS = 8, FULL_PARTS = MOST_PARTS * 68,
     ANSWER_DONE = 0, ANSWER_REPEATED = 17, ANSWER_NOT_ON_ROSTER = 24
 };
 
 static const size_t sizes[] = {10, 100, 256, MOST_LINES};
-enum { SIZES = sizeof sizes / sizeof sizes[0], BOOK_ROWS = 8, KEY_ROWS = 5, ACCOUNT_ROWS = 2,
-       PART_ROWS = 4 };
+enum { SIZES = sizeof sizes / sizeof sizes[0], BOOK_ROWS = 8, KEY_ROWS = 5, REPORTED_ROWS = 4,
+       ACCOUNT_ROWS = 2, PART_ROWS = 4 };
 
 /* How a number becomes a name of ten bytes: a front that all names share, then its last
    digits in the signs given, then blanks. */
 struct naming { const char *front, *signs; size_t digits; };
 
-/* A kind of book: which schools of the roster order, and the names that they use. */
+/* A kind of book: which schools of the roster order, the names that they use, and whether
+   reports came, each with an expected day. */
 struct book_kind {
     const char *name; /* in the table, behind the book's size */
     size_t rows; /* of book_rows, from the first on */
     size_t first_school, schools;
     struct naming references, slip_numbers;
+    int reported;
 };
 #define TEN_SIGNS "0123456789"
 #define MANY_SIGNS TEN_SIGNS "ABCDEFGHIJKLMNOPQRSTUVWXYZabcdefghijklmnopqrstuvwxyz-_"
 static const struct book_kind book_kinds[] = {
-    {"", BOOK_ROWS, MIDDLE, 1, {"R", TEN_SIGNS, 6}, {"70", TEN_SIGNS, 6}},
+    {"", BOOK_ROWS, MIDDLE, 1, {"R", TEN_SIGNS, 6}, {"70", TEN_SIGNS, 6}, 0},
     {", thirty schools with the same references", KEY_ROWS, 0, SCHOOLS,
-     {"R", TEN_SIGNS, 6}, {"70", TEN_SIGNS, 6}},
+     {"R", TEN_SIGNS, 6}, {"70", TEN_SIGNS, 6}, 0},
     {", references that differ in the last bytes", KEY_ROWS, MIDDLE, 1,
-     {"KLASSE8-", MANY_SIGNS, 2}, {"LS-2024-", MANY_SIGNS, 2}}
+     {"KLASSE8-", MANY_SIGNS, 2}, {"LS-2024-", MANY_SIGNS, 2}, 0},
+    {", lines reported", REPORTED_ROWS, MIDDLE, 1, {"R", TEN_SIGNS, 6}, {"70", TEN_SIGNS, 6}, 1}
 };
 enum { BOOK_KINDS = sizeof book_kinds / sizeof book_kinds[0],
        MOST_ROWS = 2 * (1 + MOST_RECORDS) + BOOK_KINDS * BOOK_ROWS * SIZES + ACCOUNT_ROWS
@@ -112,7 +117,7 @@ struct task {
     wq_booked booked;
     wq_told told;
 };
-static const struct task one_call = {NULL, 1, "", {0, 0, 0, 0, 0, 0, 0, 0}, {0, 0, 0, 0, 0, 0, 0}};
+static const struct task one_call = {.count = 1};
 
 /* Makes a task's calls so many times; gives 0 where every answer is the expected one. */
 typedef uint64_t run(const struct side *side, const struct task *task, size_t rounds);
@@ -157,7 +162,9 @@ static uint64_t unlike(const wq_booked *one, const wq_booked *other)
     return (one->answer ^ other->answer) | (one->place ^ other->place)
          | (one->ordered ^ other->ordered) | (one->filled ^ other->filled)
          | (one->still_open ^ other->still_open) | (one->let_go ^ other->let_go)
-         | (one->extra ^ other->extra) | (one->agreed ^ other->agreed);
+         | (one->extra ^ other->extra) | (one->agreed ^ other->agreed)
+         | (one->message ^ other->message) | (one->expected ^ other->expected)
+         | (one->year ^ other->year) | (one->month ^ other->month) | (one->day ^ other->day);
 }
 
 static uint64_t unlike_told(const wq_told *one, const wq_told *other)
@@ -165,7 +172,9 @@ static uint64_t unlike_told(const wq_told *one, const wq_told *other)
     return (one->answer ^ other->answer) | (one->place ^ other->place)
          | (one->ordered ^ other->ordered) | (one->filled ^ other->filled)
          | (one->still_open ^ other->still_open) | (one->let_go ^ other->let_go)
-         | (one->extra ^ other->extra);
+         | (one->extra ^ other->extra)
+         | (one->message ^ other->message) | (one->expected ^ other->expected)
+         | (one->year ^ other->year) | (one->month ^ other->month) | (one->day ^ other->day);
 }
 
 /* --- The calls that are timed --- */
@@ -229,7 +238,7 @@ static uint64_t run_write_parts(const struct side *side, const struct task *task
 }
 
 /* A booking changes the counts and the last line, or adds an entry past the counts: so the
-   book is put back by copying 72 bytes, which is timed on both sides alike. */
+   book is put back by copying 82 bytes, which is timed on both sides alike. */
 static uint64_t run_book(const struct side *side, const struct task *task, size_t rounds)
 {
     const uint8_t *record = (const uint8_t *)task->text;
@@ -506,13 +515,18 @@ static void delivery_text(char *text, const struct book_kind *kind, size_t line,
              1 + slip % POSITIONS_ON_A_SLIP, reference, title);
 }
 
+/* A report without a date, or with a day of any month. */
 static void report_text(char *text, const struct book_kind *kind, size_t line)
 {
-    char school[ADDRESS + QUALIFIER + 1], reference[NAME + 1];
+    enum { SHORTEST_MONTH = 28, MONTHS = 12 };
+    char school[ADDRESS + QUALIFIER + 1], reference[NAME + 1], said[TEXT] = "010N        ";
     make_school(school, kind, line);
     make_reference(reference, kind, line);
-    snprintf(text, TEXT, "M10124000     VD%s70012345  %s%s010N        0000*9999", school,
-             reference, ordered_title);
+    if (kind->reported)
+        snprintf(said, sizeof said, "015J2024%02zu%02zu", 1 + line % MONTHS,
+                 1 + line % SHORTEST_MONTH);
+    snprintf(text, TEXT, "M10124000     VD%s70012345  %s%s%.12s0000*9999", school, reference,
+             ordered_title, said);
 }
 
 static wq_booked book_into(struct book *book, const struct side *side, const char *text)
@@ -522,8 +536,8 @@ static wq_booked book_into(struct book *book, const struct side *side, const cha
                       book->slips, book->slips_length, book->used);
 }
 
-/* A book made by bookings: all lines but one, two slips on each, one slip more on the last;
-   one entry of each room stays free. */
+/* A book made by bookings: all lines but one, two slips on each, one slip more on the last, and
+   where reports came, one on each line; one entry of each room stays free. */
 static void stock(const struct book_kind *kind, size_t lines)
 {
     char text[TEXT];
@@ -539,6 +553,10 @@ static void stock(const struct book_kind *kind, size_t lines)
         size_t line = slip / 2 < lines - 1 ? slip / 2 : lines - 2;
         delivery_text(text, kind, line, slip, ordered_title);
         insist(book_into(&kept, &sides[REFERENCE], text).answer == ANSWER_DONE, "no delivery");
+    }
+    for (size_t line = 0; kind->reported && line + 1 < lines; line++) {
+        report_text(text, kind, line);
+        insist(book_into(&kept, &sides[REFERENCE], text).answer == ANSWER_DONE, "no report");
     }
     insist(kept.used[0] == lines - 1 && kept.used[1] == 2 * lines - 1, "the book's counts");
     lent = kept;
@@ -703,18 +721,18 @@ static void add_records(const char *call, run *calls, size_t count, int alone)
     }
 }
 
-/* The rows of a book, each in books of all sizes; those that every kind of book has come
-   first. */
+/* The rows of a book, each in books of all sizes; those that every kind of book has come first,
+   then one that the books whose lines are reported do not have. */
 static const struct {
     const char *call;
     run *calls;
     struct task (*task)(const struct book_kind *);
 } book_rows[BOOK_ROWS] = {
     {"book, delivery accepted", run_book, delivery_task},
-    {"book, delivery repeated (17)", run_book, repeated_task},
     {"book, order accepted", run_book, order_task},
     {"book, report accepted", run_book, report_task},
     {"line", run_line, line_task},
+    {"book, delivery repeated (17)", run_book, repeated_task},
     {"book, delivery by the supplier's number", run_book, own_number_task},
     {"save", run_save, save_task},
     {"load", run_load, save_task}

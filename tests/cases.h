@@ -15,9 +15,11 @@ void compare_ceilings(struct dice *dice);
 void compare_accounts(struct dice *dice);
 void compare_saves(struct dice *dice);
 void compare_articles(struct dice *dice);
+void compare_reports(struct dice *dice);
 
 /* In few rounds: every byte, and few cases each of large books and far numbers. */
 void compare_marks(struct dice *dice);
+void compare_report_bytes(struct dice *dice);
 void compare_part_bytes(struct dice *dice);
 void compare_written_bytes(struct dice *dice);
 void compare_far_records(struct dice *dice);
@@ -63,10 +65,11 @@ void order_at_edge(struct dice *dice, struct shelf *shelf, const uint8_t *accoun
 void save_and_load(struct dice *dice, struct shelf *shelf, int by_bookings);
 
 /* compare_save.c: saves the book and loads it into rooms of the same size; gives the answer
-   of loading, and where that is 0 the same book. */
+   of loading, and where that is 0 the same book, without its messages. */
 uint64_t load_again(struct dice *dice, struct shelf *shelf, struct shelf *loaded);
 
-/* compare_save.c: whether both have the same counts and the same used entries. */
+/* compare_save.c: whether both have the same counts and the same used entries, but for what no
+   save has: message and expected date. */
 int is_same_book(const struct shelf *shelf, const struct shelf *other);
 
 #endif

@@ -71,9 +71,11 @@ static void run_round(uint64_t seed, uint64_t round)
     compare_accounts(&dice);
     compare_saves(&dice);
     compare_articles(&dice);
+    compare_reports(&dice);
     if (round % FAR_EVERY != 0)
         return;
     compare_marks(&dice);
+    compare_report_bytes(&dice);
     compare_part_bytes(&dice);
     compare_written_bytes(&dice);
     compare_far_records(&dice);

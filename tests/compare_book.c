@@ -82,6 +82,29 @@ static size_t make_booking(struct dice *dice, const struct shelf *shelf, size_t 
     return assemble(&sheet, record);
 }
 
+/* What the last report on a line said, asked for in a sequence. */
+static void ask_in_sequence(const uint8_t *key, struct shelf *shelf)
+{
+    if (ask_line(key, shelf) != 0)
+        return;
+    uint64_t message = tally.said.message;
+    came_up(message == IN_NO_REPORT ? SEQUENCE_NO_REPORT
+            : message == IN_UNKNOWN ? SEQUENCE_UNKNOWN
+            : (enum class)(SEQUENCE_DAY + tally.said.expected - IN_AS_DAY), 1);
+}
+
+/* Saves the book and loads it again; a book made by bookings goes on as it was loaded, now and
+   then. */
+static void save_in_sequence(struct dice *dice, struct shelf *shelf, int by_bookings)
+{
+    static struct shelf loaded;
+    save_and_load(dice, shelf, by_bookings);
+    if (by_bookings && chance(dice, 2)) {
+        insist(load_again(dice, shelf, &loaded) == 0, "a book made by bookings is loaded");
+        *shelf = loaded;
+    }
+}
+
 /* Bookings one after another, with repeated, swapped and damaged records. */
 static void book_sequence(struct dice *dice, struct shelf *shelf, size_t steps,
                           size_t variety, int by_bookings)
@@ -104,10 +127,10 @@ static void book_sequence(struct dice *dice, struct shelf *shelf, size_t steps,
         }
         if (chance(dice, 3)) {
             pick_key(dice, shelf, variety, key);
-            ask_line(key, shelf);
+            ask_in_sequence(key, shelf);
         }
         if (chance(dice, 25))
-            save_and_load(dice, shelf, by_bookings);
+            save_in_sequence(dice, shelf, by_bookings);
     }
 }
 
@@ -192,7 +215,7 @@ static void book_at_limit(struct dice *dice)
             shelf.used[1] += (size_t)chance(dice, 3);
             put_little(shelf.slips + 3 * IN_SLIP + IN_LINE_OF_SLIP, 2, 0);
             uint8_t *line = shelf.lines + below(dice, 3) * IN_LINE;
-            put_little(line + 52, 4, 9999999 - missing[i]);
+            put_little(line + IN_ARRIVED, 4, 9999999 - missing[i]);
             make_fixed(dice, &sheet, GOODS_SHAPE, line, copies[j]);
             size_t length = assemble(&sheet, record);
             book_listed(dice, record, length, &shelf);
@@ -286,11 +309,11 @@ static void break_entries(struct dice *dice)
                 shelf = sound;
                 uint8_t *line = shelf.lines + i * IN_LINE;
                 if (what == 0)
-                    put_little(line + 49, 2, ordered[j]);
+                    put_little(line + IN_ORDERED, 2, ordered[j]);
                 else if (what == 1)
-                    line[51] = (uint8_t)marks[j];
+                    line[IN_MARK] = (uint8_t)marks[j];
                 else
-                    put_little(line + 52, 4, arrived[j]);
+                    put_little(line + IN_ARRIVED, 4, arrived[j]);
                 try_all(dice, &shelf);
             }
     for (size_t i = 0; i < 5; i++)
@@ -308,10 +331,12 @@ static void break_sizes(struct dice *dice)
 {
     const size_t counts[] = {0, 3, 4, 5, 6, 512, 1025, SIZE_MAX, SIZE_MAX / 2 + 1,
                              SIZE_MAX / IN_LINE + 1, SIZE_MAX / IN_SLIP + 1};
-    static const size_t line_rooms[] = {0, 1, 55, 56, 57, 111, 224, 512 * 56, 512 * 56 + 1,
-                                        513 * 56, 514 * 56};
-    static const size_t slip_rooms[] = {0, 1, 49, 50, 51, 100, 250, 1024 * 50, 1024 * 50 + 1,
-                                        1025 * 50, 1026 * 50};
+    static const size_t line_rooms[] = {0, 1, IN_LINE - 1, IN_LINE, IN_LINE + 1,
+                                        2 * IN_LINE - 1, 4 * IN_LINE, 512 * IN_LINE,
+                                        512 * IN_LINE + 1, 513 * IN_LINE, 514 * IN_LINE};
+    static const size_t slip_rooms[] = {0, 1, IN_SLIP - 1, IN_SLIP, IN_SLIP + 1, 2 * IN_SLIP,
+                                        5 * IN_SLIP, 1024 * IN_SLIP, 1024 * IN_SLIP + 1,
+                                        1025 * IN_SLIP, 1026 * IN_SLIP};
     static struct shelf sound, shelf;
     make_shelf(dice, &sound, SHELF_LINES, SHELF_SLIPS);
     stock_shelf(dice, &sound, 5, 6, 1);
@@ -334,7 +359,7 @@ static void break_sizes(struct dice *dice)
             shelf.slips_length = slip_rooms[j];
             shelf.used[0] = below(dice, 2);
             shelf.used[1] = shelf.used[0] * below(dice, 2);
-            put_little(shelf.slips + 46, 2, 0);
+            put_little(shelf.slips + IN_LINE_OF_SLIP, 2, 0);
             try_all(dice, &shelf);
         }
 }

@@ -125,13 +125,13 @@ static void order_beside_closed(struct dice *dice)
         size_t ordered = between(dice, 2, IN_MOST_COPIES);
         make_shelf(dice, &shelf, 9, 1);
         add_open(dice, &shelf, ours, below(dice, 50));
-        add_line(&shelf, ours, ordered, below(dice, ordered), IN_LET_GO);
+        add_line(dice, &shelf, ours, ordered, below(dice, ordered), IN_LET_GO);
         order_at_edge(dice, &shelf, ours, some_copies(dice), OPEN_BESIDE_LET_GO);
-        add_line(&shelf, ours, ordered, ordered + between(dice, 1, 9999), (uint8_t)(i % 3));
+        add_line(dice, &shelf, ours, ordered, ordered + between(dice, 1, 9999), (uint8_t)(i % 3));
         order_at_edge(dice, &shelf, ours, some_copies(dice), OPEN_BESIDE_EXTRA);
-        add_line(&shelf, ours, ordered, ordered, (uint8_t)(i % 3));
+        add_line(dice, &shelf, ours, ordered, ordered, (uint8_t)(i % 3));
         order_at_edge(dice, &shelf, ours, some_copies(dice), OPEN_BESIDE_FILLED);
-        add_line(&shelf, ours, ordered, between(dice, 1, ordered - 1), IN_HELD);
+        add_line(dice, &shelf, ours, ordered, between(dice, 1, ordered - 1), IN_HELD);
         order_at_edge(dice, &shelf, ours, some_copies(dice), OPEN_AFTER_PART);
     }
 }
@@ -190,7 +190,8 @@ static void order_with_others(struct dice *dice)
         size_t copies = some_copies(dice);
         make_shelf(dice, &shelf, lines + lines % 2, 1);
         while (shelf.used[0] < lines)
-            add_line(&shelf, ours, between(dice, 1, 9999), below(dice, 9), (uint8_t)below(dice, 3));
+            add_line(dice, &shelf, ours, between(dice, 1, 9999), below(dice, 9),
+                     (uint8_t)below(dice, 3));
         const struct booking again = {ORDER_SHAPE, shelf.lines + below(dice, lines) * IN_LINE,
                                       copies, NULL};
         size_t sum = open_on(&shelf, ours) + copies;
@@ -231,7 +232,7 @@ static void reopen(struct dice *dice)
     uint8_t slip[IN_SLIP_KEY];
     size_t copies = between(dice, 2, IN_MOST_COPIES), ceiling = copies + below(dice, copies);
     make_shelf(dice, &shelf, 4, 4);
-    add_line(&shelf, ours, copies, 0, IN_NO_MARK);
+    add_line(dice, &shelf, ours, copies, 0, IN_NO_MARK);
     expect(REOPENED, 1, order_under(dice, &shelf, ours, ceiling - copies + 1, ceiling), 25);
     report_until(dice, &shelf, 0, IN_LET_GO, ceiling, REOPENED);
     expect(REOPENED, 1, order_under(dice, &shelf, ours, copies, ceiling), 0);

@@ -180,8 +180,8 @@ static void refuse_book(struct dice *dice, struct shelf *shelf, enum class class
 static void break_far_lines(struct dice *dice)
 {
     static const struct { size_t place, width, number; } faults[] = {
-        {IN_ORDERED, 2, 0}, {IN_ORDERED, 2, 10000}, {IN_MARK, 1, 3},
-        {IN_ARRIVED, 4, 10000000}, {IN_ARRIVED, 4, 1 << 24}
+        {IN_ORDERED, 2, 0}, {IN_ORDERED, 2, 10000}, {IN_MARK, 1, 3}, {IN_MESSAGE, 2, 1000},
+        {IN_EXPECTED, 1, 'x'}, {IN_ARRIVED, 4, 10000000}, {IN_ARRIVED, 4, 1 << 24}
     };
     static struct shelf shelf;
     make_shelf(dice, &shelf, MOST_LINES, 20);

@@ -22,7 +22,7 @@ static void meet_far_lengths(struct dice *dice)
         const struct booking booking = {shape, key, 7, NULL};
         make_shelf(dice, &shelf, 2, 2);
         if (shape != ORDER_SHAPE)
-            add_line(&shelf, ours, 10, 0, IN_NO_MARK);
+            add_line(dice, &shelf, ours, 10, 0, IN_NO_MARK);
         make_roster_of(dice, &roster, ours, WQ_HIGHEST_CEILING, IN_MOST_SCHOOLS, 0);
         expect(ROSTER_OF_64, 1, book_before(dice, &roster, &shelf, booking), 0);
         roster.length = FAR_ROSTER + below(dice, IN_MOST_SCHOOLS + 1) * IN_SCHOOL;
@@ -77,7 +77,7 @@ static void order_beside_far(struct dice *dice)
         while (shelf.used[0] < MOST_OPEN_LINES) {
             memcpy(near, ours, IN_PARTY);
             near[below(dice, IN_PARTY)] ^= (uint8_t)(1u << below(dice, 8));
-            add_line(&shelf, shelf.used[0] == far ? ours : near,
+            add_line(dice, &shelf, shelf.used[0] == far ? ours : near,
                      between(dice, 1, IN_MOST_COPIES), 0, (uint8_t)below(dice, IN_LET_GO));
         }
         order_at_edge(dice, &shelf, ours, between(dice, 1, 9), OPEN_ON_LINE_FROM_256);

@@ -50,7 +50,7 @@ enum meeting { LISTED, NOT_LISTED, WRONG_SIZE };
 static void make_full_book(struct dice *dice, struct shelf *shelf, const uint8_t *account)
 {
     make_shelf(dice, shelf, 1, 1);
-    add_line(shelf, account, 10, MOST_ARRIVED - LEFT, IN_NO_MARK);
+    add_line(dice, shelf, account, 10, MOST_ARRIVED - LEFT, IN_NO_MARK);
     unique_slip_key(shelf->slips, 0);
     memcpy(shelf->slips + IN_PARTY, account, IN_PARTY);
     put_little(shelf->slips + IN_LINE_OF_SLIP, 2, 0);

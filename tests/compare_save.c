@@ -5,9 +5,16 @@
 
 int is_same_book(const struct shelf *shelf, const struct shelf *other)
 {
-    return memcmp(other->used, shelf->used, sizeof other->used) == 0
-        && memcmp(other->lines, shelf->lines, shelf->used[0] * IN_LINE) == 0
-        && memcmp(other->slips, shelf->slips, shelf->used[1] * IN_SLIP) == 0;
+    if (memcmp(other->used, shelf->used, sizeof other->used) != 0
+        || memcmp(other->slips, shelf->slips, shelf->used[1] * IN_SLIP) != 0)
+        return 0;
+    for (size_t i = 0; i < shelf->used[0]; i++) {
+        const uint8_t *line = shelf->lines + i * IN_LINE, *loaded = other->lines + i * IN_LINE;
+        if (memcmp(loaded, line, IN_BODY) != 0
+            || memcmp(loaded + IN_ARRIVED, line + IN_ARRIVED, IN_LINE - IN_ARRIVED) != 0)
+            return 0;
+    }
+    return 1;
 }
 
 void save_and_load(struct dice *dice, struct shelf *shelf, int by_bookings)
@@ -107,10 +114,10 @@ static void load_numbers(struct dice *dice)
             uint8_t *line = saved + below(dice, 3) * IN_SAVED_LINE;
             uint8_t *slip = saved + 3 * IN_SAVED_LINE + below(dice, 3) * IN_SAVED_SLIP;
             switch (which) {
-            case 0: put_little(line + 50, 2, numbers[i]); break;
-            case 1: line[52] = (uint8_t)numbers[i]; break;
-            case 2: put_little(slip + 47, 2, numbers[i]); break;
-            case 3: put_little(slip + 49, 2, numbers[i]); break;
+            case 0: put_little(line + 1 + IN_ORDERED, 2, numbers[i]); break;
+            case 1: line[1 + IN_MARK] = (uint8_t)numbers[i]; break;
+            case 2: put_little(slip + 1 + IN_LINE_OF_SLIP, 2, numbers[i]); break;
+            case 3: put_little(slip + 1 + IN_COPIES, 2, numbers[i]); break;
             case 4: put_little(saved + length - 4, 2, numbers[i]); break;
             default: put_little(saved + length - 2, 2, numbers[i]); break;
             }
@@ -157,7 +164,7 @@ static void load_wrong_entries(struct dice *dice)
         case 4: put_little(saved + length - 2, 2, slips + 1 - 2 * below(dice, 2)); break;
         case 5: make_line_key(dice, 0, first + 1); break;
         case 6: memcpy(slip + 1, "43210     VD24000     VD", 24); break;
-        case 7: put_little(slip + 47, 2, lines - below(dice, 2)); break;
+        case 7: put_little(slip + 1 + IN_LINE_OF_SLIP, 2, lines - below(dice, 2)); break;
         case 8: memcpy(first + 25, "*+:?'     ", 10); break;
         default: length -= IN_SAVED_END; break;
         }

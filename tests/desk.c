@@ -1,6 +1,6 @@
 /* desk: what the desk program of document 01 prints of the records on standard input, by
    the reference. One line a record: number, kind letter, answer, ordered, filled, open,
-   let go, extra. */
+   let go, extra, message. */
 #include "reference.h"
 #include "reference_parts.h"
 
@@ -26,6 +26,15 @@ static size_t own_roster(const uint8_t *record, size_t length, uint8_t *roster)
     return SCHOOL_WIDTH;
 }
 
+/* The ninth field: three digits, or a hyphen where there is no message, also on a refusal. */
+static void print_message(const wq_booked *booked)
+{
+    if (booked->answer == DONE && booked->message <= MOST_MESSAGE)
+        printf(" %0*" PRIu64 "\n", MESSAGE_WIDTH, booked->message);
+    else
+        printf(" -\n");
+}
+
 /* Books one record and prints its line. Too long, and no known kind, have no letter. */
 static void answer_record(size_t number, const uint8_t *record, size_t length)
 {
@@ -33,9 +42,10 @@ static void answer_record(size_t number, const uint8_t *record, size_t length)
     wq_booked booked = ref_book(record, length, roster, own_roster(record, length, roster),
                                 lines, sizeof lines, slips, sizeof slips, used);
     int letter = booked.answer == 1 || booked.answer == 2 ? '?' : record[0];
-    printf("%zu %c %" PRIu64 " %" PRIu64 " %" PRIu64 " %" PRIu64 " %" PRIu64 " %" PRIu64 "\n",
+    printf("%zu %c %" PRIu64 " %" PRIu64 " %" PRIu64 " %" PRIu64 " %" PRIu64 " %" PRIu64,
            number, letter, booked.answer, booked.ordered, booked.filled, booked.still_open,
            booked.let_go, booked.extra);
+    print_message(&booked);
 }
 
 int main(void)

@@ -23,10 +23,10 @@ void stock_shelf(struct dice *dice, struct shelf *shelf, size_t lines, size_t sl
     for (size_t i = 0; i < lines; i++) {
         uint8_t *line = shelf->lines + i * IN_LINE;
         make_line_key(dice, variety, line);
-        put_little(line + 49, 2, chance(dice, 4) ? 9999 : between(dice, 1, 30));
-        line[51] = (uint8_t)below(dice, 3);
-        put_little(line + 52, 4, chance(dice, 4) ? 9999999 - below(dice, 12000)
-                                                 : below(dice, 40));
+        put_little(line + IN_ORDERED, 2, chance(dice, 4) ? 9999 : between(dice, 1, 30));
+        make_any_state(dice, line);
+        put_little(line + IN_ARRIVED, 4, chance(dice, 4) ? 9999999 - below(dice, 12000)
+                                                         : below(dice, 40));
     }
     for (size_t i = 0; i < slips && lines > 0; i++) {
         uint8_t *slip = shelf->slips + i * IN_SLIP;
@@ -74,8 +74,8 @@ static void unique_slip(struct dice *dice, uint8_t *slip, size_t number, size_t 
     put_little(slip + IN_COPIES, 2, between(dice, 1, 9999));
 }
 
-/* A book without repeated keys, each A the sum of its slips, as bookings make it. Each line
-   has a title of its own. */
+/* A book without repeated keys, each A the sum of its slips, as bookings and a load make it.
+   Each line has a title of its own. */
 void stock_unique(struct dice *dice, struct shelf *shelf, size_t lines, size_t slips)
 {
     uint32_t sums[SHELF_LINES] = {0};
@@ -89,23 +89,23 @@ void stock_unique(struct dice *dice, struct shelf *shelf, size_t lines, size_t s
         uint8_t *line = shelf->lines + i * IN_LINE;
         unique_line_key(line, i);
         make_title(dice, line + IN_KEY);
-        put_little(line + 49, 2, between(dice, 1, 9999));
-        line[51] = (uint8_t)below(dice, 3);
-        put_little(line + 52, 4, sums[i]);
+        put_little(line + IN_ORDERED, 2, between(dice, 1, 9999));
+        make_any_state(dice, line);
+        put_little(line + IN_ARRIVED, 4, sums[i]);
     }
     shelf->used[0] = lines;
     shelf->used[1] = slips;
 }
 
 /* One more line of this school, whose key no line of the book has. */
-void add_line(struct shelf *shelf, const uint8_t *account, size_t ordered, size_t arrived,
-              uint8_t mark)
+void add_line(struct dice *dice, struct shelf *shelf, const uint8_t *account, size_t ordered,
+              size_t arrived, uint8_t mark)
 {
     uint8_t *line = shelf->lines + shelf->used[0] * IN_LINE;
     unique_line_key(line, shelf->used[0]++);
     memcpy(line, account, IN_PARTY);
     put_little(line + IN_ORDERED, 2, ordered);
-    line[IN_MARK] = mark;
+    make_state(dice, line, mark);
     put_little(line + IN_ARRIVED, 4, arrived);
 }
 
@@ -115,7 +115,8 @@ void add_open(struct dice *dice, struct shelf *shelf, const uint8_t *account, si
     while (open > 0) {
         size_t on_line = open < IN_MOST_COPIES ? open : IN_MOST_COPIES;
         size_t filled = below(dice, IN_MOST_COPIES - on_line + 1);
-        add_line(shelf, account, on_line + filled, filled, (uint8_t)below(dice, IN_LET_GO));
+        add_line(dice, shelf, account, on_line + filled, filled,
+                 (uint8_t)below(dice, IN_LET_GO));
         open -= on_line;
     }
 }
@@ -135,23 +136,36 @@ size_t open_on(const struct shelf *shelf, const uint8_t *account)
     return open;
 }
 
-/* Whether the record names the title of the first line with its key, told here a second time
-   on purpose; where there is none, no. */
-int names_title(const uint8_t *record, const struct shelf *shelf)
+/* The first line with a key, or NULL; found here a second time on purpose. */
+const uint8_t *line_with(const struct shelf *shelf, const uint8_t *key)
+{
+    for (size_t i = 0; i < shelf->used[0]; i++)
+        if (memcmp(shelf->lines + i * IN_LINE, key, IN_KEY) == 0)
+            return shelf->lines + i * IN_LINE;
+    return NULL;
+}
+
+static size_t reference_in(const uint8_t *record)
+{
+    return record[0] == 'B' ? IN_ORDER_REFERENCE
+         : record[0] == 'L' ? IN_DELIVERY_REFERENCE : IN_REPORT_REFERENCE;
+}
+
+/* The first line with the key of a record that was read, or NULL. */
+const uint8_t *line_named(const uint8_t *record, const struct shelf *shelf)
 {
     int order = record[0] == 'B';
-    const uint8_t *school = record + (order ? IN_SENDER : IN_RECIPIENT);
-    const uint8_t *supplier = record + (order ? IN_RECIPIENT : IN_SENDER);
-    const uint8_t *reference = record + (order ? IN_ORDER_REFERENCE
-        : record[0] == 'L' ? IN_DELIVERY_REFERENCE : IN_REPORT_REFERENCE);
-    for (size_t i = 0; i < shelf->used[0]; i++) {
-        const uint8_t *line = shelf->lines + i * IN_LINE;
-        if (memcmp(line, school, IN_PARTY) == 0
-            && memcmp(line + IN_PARTY, supplier, IN_PARTY) == 0
-            && memcmp(line + IN_REFERENCE, reference, IN_NAME) == 0)
-            return memcmp(line + IN_KEY, reference + IN_NAME, IN_TITLE) == 0;
-    }
-    return 0;
+    uint8_t key[IN_KEY];
+    memcpy(key, record + (order ? IN_SENDER : IN_RECIPIENT), IN_PARTY);
+    memcpy(key + IN_PARTY, record + (order ? IN_RECIPIENT : IN_SENDER), IN_PARTY);
+    memcpy(key + IN_REFERENCE, record + reference_in(record), IN_NAME);
+    return line_with(shelf, key);
+}
+
+/* Whether the record names the title of this line. */
+int names_title(const uint8_t *record, const uint8_t *line)
+{
+    return memcmp(line + IN_KEY, record + reference_in(record) + IN_NAME, IN_TITLE) == 0;
 }
 
 /* A valid save; copies 0 means any number on each slip. Slips go to the first lines. */
@@ -162,15 +176,15 @@ size_t make_save(struct dice *dice, uint8_t *saved, size_t lines, size_t slips, 
         to[0] = 1;
         unique_line_key(to + 1, i);
         make_title(dice, to + 1 + IN_KEY);
-        put_little(to + 50, 2, between(dice, 1, 9999));
-        to[52] = (uint8_t)below(dice, 3);
+        put_little(to + 1 + IN_ORDERED, 2, between(dice, 1, 9999));
+        to[1 + IN_MARK] = (uint8_t)below(dice, IN_LET_GO + 1);
     }
     for (size_t i = 0; i < slips; i++, to += IN_SAVED_SLIP) {
         to[0] = 2;
         unique_slip(dice, to + 1, i, copies ? 0 : below(dice, lines));
-        make_day(dice, to + 1 + 24);
+        make_day(dice, to + 1 + IN_DATE);
         if (copies)
-            put_little(to + 1 + 48, 2, copies);
+            put_little(to + 1 + IN_COPIES, 2, copies);
     }
     to[0] = 0;
     put_little(to + 1, 2, lines);

@@ -34,6 +34,14 @@ void put_digits(uint8_t *to, size_t width, size_t number)
     }
 }
 
+size_t get_digits(const uint8_t *from, size_t width)
+{
+    size_t number = 0;
+    for (size_t i = 0; i < width; i++)
+        number = 10 * number + from[i] - '0';
+    return number;
+}
+
 void put_little(uint8_t *to, size_t width, uint64_t number)
 {
     for (size_t i = 0; i < width; i++)
@@ -226,11 +234,9 @@ static void make_report(struct dice *dice, uint8_t *fixed, const uint8_t *key)
     if (chance(dice, 3))
         memset(fixed + 28, ' ', 10);
     memcpy(fixed + 38, key + 24, 25);
-    put_random_digits(dice, fixed + 63, 3);
-    fixed[66] = (uint8_t)"JN"[below(dice, 2)];
-    make_day(dice, fixed + 67);
-    if (chance(dice, 2))
-        memset(fixed + 67, chance(dice, 2) ? '0' : ' ', 8);
+    put_digits(fixed + IN_REPORT_MESSAGE, IN_MESSAGE_DIGITS, make_message(dice));
+    fixed[IN_REPORT_HOLD] = (uint8_t)"JN"[below(dice, 2)];
+    make_expected(dice, (enum form)below(dice, FORMS), fixed + IN_REPORT_EXPECTED);
     memset(fixed + 75, '0', 4);
 }
 

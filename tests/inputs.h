@@ -7,23 +7,31 @@
 enum {
     /* widths of the documents, stated here a second time on purpose */
     IN_ADDRESS = 10, IN_QUALIFIER = 2, IN_PARTY = 12, IN_NAME = 10,
-    IN_KEY = 34, IN_LINE = 56, IN_SLIP_KEY = 46, IN_SLIP = 50,
+    IN_KEY = 34, IN_LINE = 66, IN_SLIP_KEY = 46, IN_SLIP = 50, IN_DAY = 8,
     /* a title is an article with its qualifier; it stands behind the key of a line, and
        behind the reference of a record */
     IN_ARTICLE = 13, IN_TITLE = IN_ARTICLE + IN_QUALIFIER, IN_TITLED = IN_KEY + IN_TITLE,
     IN_SAVED_LINE = 53, IN_SAVED_SLIP = 51, IN_SAVED_END = 5,
     IN_SCHOOL = 16, IN_CEILING = 12, IN_MOST_SCHOOLS = 64,
+    /* digits of a message, and where month and day stand in a date */
+    IN_MESSAGE_DIGITS = 3, IN_MONTH = 4, IN_DAY_OF_MONTH = 6,
     /* where the parts of a line, of a slip and of a delivery's fixed part start; in a save
        the byte of kind stands before a line or slip */
-    IN_ORDERED = 49, IN_MARK = 51, IN_ARRIVED = 52, IN_LINE_OF_SLIP = 46, IN_COPIES = 48,
+    IN_ORDERED = 49, IN_MARK = 51, IN_MESSAGE = 52, IN_EXPECTED = 54, IN_ARRIVED = 62,
+    IN_LINE_OF_SLIP = 46, IN_COPIES = 48,
+    /* what a save has of a line, and what a line has of its last report */
+    IN_BODY = IN_MESSAGE, IN_STATE = IN_ARRIVED - IN_MARK,
     IN_DATE = 24, IN_DATE_TO_POSITION = 22, IN_SLIP_NUMBER = 32, IN_DELIVERY_DATE = 28,
     IN_KIND_BYTE = 1,
     IN_SAVED_LINES_COUNT = 4, IN_SAVED_SLIPS_COUNT = 2,
     IN_SENDER = 4, IN_RECIPIENT = 16, IN_REFERENCE = 24, IN_ORDER_COPIES = 61,
     IN_ORDER_REFERENCE = 36, IN_DELIVERY_REFERENCE = 50, IN_REPORT_REFERENCE = 38,
+    IN_REPORT_MESSAGE = 63, IN_REPORT_HOLD = 66, IN_REPORT_EXPECTED = 67,
     IN_MOST_FIELDS = 96, IN_FULL_TABLE = 3 * IN_MOST_FIELDS, IN_LONGEST = 1024,
     IN_MOST_COPIES = 9999,
     IN_NO_MARK = 0, IN_HELD = 1, IN_LET_GO = 2,
+    IN_MOST_MESSAGE = 999, IN_UNKNOWN = 65534, IN_NO_REPORT = 65535,
+    IN_AS_DAY = 1, IN_AS_ZEROS = 2, IN_AS_BLANKS = 3,
     /* bundles: the mark, the fields of a loop and its shortest length, a lent part and a
        price in it */
     IN_TAX_MARK = 107, IN_MOST_PARTS = 8, IN_LOOP = 10, IN_SHORTEST_LOOP = 77,
@@ -99,6 +107,7 @@ uint8_t high_byte(struct dice *dice);
 uint8_t allowed_byte(struct dice *dice, int order);
 uint8_t odd_byte(struct dice *dice, uint8_t byte);
 void put_digits(uint8_t *to, size_t width, size_t number);
+size_t get_digits(const uint8_t *from, size_t width);
 void put_little(uint8_t *to, size_t width, uint64_t number);
 size_t get_little(const uint8_t *from, size_t width);
 
@@ -155,16 +164,33 @@ void make_roster(struct dice *dice, struct roster *roster, const uint8_t *accoun
 void make_roster_across(struct roster *roster, const uint8_t *account, size_t place);
 void make_wrong_roster(struct dice *dice, struct roster *roster, const uint8_t *account);
 
+/* What the last report said, on a line: mark, message and expected date in one of its forms,
+   which stand in the order of their numbers; and what is told of it. */
+enum form { A_DAY, ZEROS, BLANKS, FORMS };
+struct said { uint64_t message, expected, year, month, day; };
+void make_expected(struct dice *dice, enum form form, uint8_t *date);
+size_t make_message(struct dice *dice);
+void put_state(uint8_t *line, uint8_t mark, size_t message, const uint8_t *date);
+void make_state(struct dice *dice, uint8_t *line, uint8_t mark);
+void make_any_state(struct dice *dice, uint8_t *line);
+int is_sound_state(const uint8_t *line);
+struct said said_on(const uint8_t *line);
+int is_same_said(const struct said *one, const struct said *other);
+void state_after(const uint8_t *record, const uint8_t *before, uint8_t *state);
+int is_loaded_state(const uint8_t *line);
+
 /* Books and saves. */
 void make_shelf(struct dice *dice, struct shelf *shelf, size_t line_room, size_t slip_room);
 void stock_shelf(struct dice *dice, struct shelf *shelf, size_t lines, size_t slips,
                  size_t variety);
 void stock_unique(struct dice *dice, struct shelf *shelf, size_t lines, size_t slips);
-void add_line(struct shelf *shelf, const uint8_t *account, size_t ordered, size_t arrived,
-              uint8_t mark);
+void add_line(struct dice *dice, struct shelf *shelf, const uint8_t *account, size_t ordered,
+              size_t arrived, uint8_t mark);
 void add_open(struct dice *dice, struct shelf *shelf, const uint8_t *account, size_t open);
 size_t open_on(const struct shelf *shelf, const uint8_t *account);
-int names_title(const uint8_t *record, const struct shelf *shelf);
+const uint8_t *line_with(const struct shelf *shelf, const uint8_t *key);
+const uint8_t *line_named(const uint8_t *record, const struct shelf *shelf);
+int names_title(const uint8_t *record, const uint8_t *line);
 void unique_line_key(uint8_t *key, size_t number);
 void unique_slip_key(uint8_t *key, size_t number);
 size_t make_save(struct dice *dice, uint8_t *saved, size_t lines, size_t slips,

@@ -17,7 +17,8 @@
 #endif
 
 enum {
-    MOST_PIECES = 8, MOST_VALUES = 8, SIDES = 2, GUARD = 64, SLACK = 16,
+    MOST_PIECES = 8, SIDES = 2, GUARD = 72, SLACK = 16,
+    FIGURES_FROM = 2, SAID_FROM = FIGURES_FROM + FIGURES, AGREED = 12, MOST_VALUES = 13,
     DESK_WORDS = 1 << 19, MOST_SHOWN = 4096
 };
 
@@ -50,7 +51,8 @@ static size_t desk_words[SIDES][DESK_WORDS];
    ID 1019. It changes from call to call and differs between the sides, so that reading it
    shows. */
 static const char guards[][GUARD + SLACK + 1] = {
-    "43210     VD24000     VDA-17      9783442756841EN\1\0\0\0\0\0\0" "************************",
+    "43210     VD24000     VDA-17      9783442756841EN\1\0\0\377\377        \0\0\0\0"
+    "**********************",
     "24000     VD43210     VD2024022670012345  0001\0\0\1\0" "000000000000000000000000000000",
     "43210     VD\377\377\377\377" "43210     VD\377\377\377\377" "43210     VD\0\0\0\0"
     "43210     IB\377\377\377\377" "43210     VD\377\377\377\377",
@@ -144,17 +146,21 @@ static int guards_hold(const struct lending *lending, size_t side)
     return memcmp(desk(side) + end, guard_of(side), GUARD) == 0;
 }
 
-static struct outcome booked_of(wq_booked booked)
-{
-    struct outcome outcome = {{booked.answer, booked.place, booked.ordered, booked.filled,
-                               booked.still_open, booked.let_go, booked.extra, booked.agreed}};
-    return outcome;
-}
-
 static struct outcome told_of(wq_told told)
 {
     struct outcome outcome = {{told.answer, told.place, told.ordered, told.filled,
-                               told.still_open, told.let_go, told.extra}};
+                               told.still_open, told.let_go, told.extra, told.message,
+                               told.expected, told.year, told.month, told.day, 0}};
+    return outcome;
+}
+
+/* What a booking gives stands as what the call by key does, with `agreed` behind it. */
+static struct outcome booked_of(wq_booked booked)
+{
+    struct outcome outcome = {{booked.answer, booked.place, booked.ordered, booked.filled,
+                               booked.still_open, booked.let_go, booked.extra, booked.message,
+                               booked.expected, booked.year, booked.month, booked.day,
+                               booked.agreed}};
     return outcome;
 }
 
@@ -331,6 +337,17 @@ static int is_same(const struct lending *lending)
     return 1;
 }
 
+/* Keeps what the call gave for those who made it. */
+static void keep_outcome(const struct outcome *outcome)
+{
+    const uint64_t *said = outcome->values + SAID_FROM;
+    tally.place = outcome->values[1];
+    tally.value = outcome->values[FIGURES_FROM];
+    tally.agreed = outcome->values[AGREED];
+    memcpy(tally.figures, outcome->values + FIGURES_FROM, sizeof tally.figures);
+    tally.said = (struct said){said[0], said[1], said[2], said[3], said[4]};
+}
+
 /* Runs the call on both sides and compares all of it; gives the answer. */
 static uint64_t run_both(struct lending *lending)
 {
@@ -356,9 +373,7 @@ static uint64_t run_both(struct lending *lending)
     if (answer >= ANSWER_COUNT)
         fail(lending, outcomes, "no such answer");
     tally.seen[lending->call][answer]++;
-    tally.place = outcomes[0].values[1];
-    tally.value = outcomes[0].values[2];
-    tally.agreed = outcomes[0].values[MOST_VALUES - 1];
+    keep_outcome(&outcomes[0]);
     return answer;
 }
 
@@ -450,19 +465,44 @@ uint64_t both_write_parts(const struct bundle *bundle, uint8_t *out, size_t out_
     return answer;
 }
 
-/* Whether the lines of the book have the keys, titles and orders that they had. */
-static int are_lines_kept(const uint8_t *after, const struct shelf *shelf)
+/* Whether the lines of the book are as they were: the one that was booked on by its key, title
+   and order, the others whole. */
+static int are_lines_kept(const struct shelf *before, const struct shelf *after,
+                          const uint8_t *booked_on)
 {
-    for (size_t i = 0; i < shelf->used[0]; i++)
-        if (memcmp(after + i * IN_LINE, shelf->lines + i * IN_LINE, IN_MARK) != 0)
+    for (size_t i = 0; i < before->used[0]; i++) {
+        const uint8_t *line = after->lines + i * IN_LINE;
+        size_t kept = line == booked_on ? IN_MARK : IN_LINE;
+        if (memcmp(line, before->lines + i * IN_LINE, kept) != 0)
             return 0;
+    }
     return 1;
+}
+
+/* What holds after every booking: the record's line is there and tells what it holds, its last
+   report is the one that it has to be, and the rest of the lines is as it was. */
+static void insist_booked(const uint8_t *record, const struct shelf *before,
+                          const struct shelf *after)
+{
+    uint8_t state[IN_STATE];
+    const uint8_t *line = line_named(record, after);
+    insist(line != NULL, "a record that was booked has a line");
+    const struct said said = said_on(line);
+    state_after(record, before->lines + (line - after->lines), state);
+    insist(are_lines_kept(before, after, line), "a booking changes its own line alone");
+    insist(memcmp(line + IN_MARK, state, IN_STATE) == 0,
+           "a report sets all that a line has of it, and no other record does");
+    insist(is_same_said(&said, &tally.said), "a booking tells what its line's last report said");
+    insist(tally.agreed == (uint64_t)names_title(record, line),
+           "agreed tells whether the record names the line's article");
+    insist(record[0] != 'B' || tally.agreed == 1, "an order agrees with its own line");
 }
 
 uint64_t both_book(const uint8_t *record, size_t length, const struct roster *roster,
                    struct shelf *shelf)
 {
     enum { ONLY_READ = 2 };
+    static struct shelf before;
     struct lending lending = lend(BOOK);
     add_piece(&lending, "record", record, length, 1);
     add_piece(&lending, "roster", roster->bytes, roster->length, 1);
@@ -471,13 +511,27 @@ uint64_t both_book(const uint8_t *record, size_t length, const struct roster *ro
     insist(are_unchanged(&lending, 0, ONLY_READ), "record and roster never change");
     if (answer != 0)
         return answer;
-    insist(are_lines_kept(copy_of(&lending, 0, ONLY_READ), shelf),
-           "no booking changes what a line's order gave it");
+    memcpy(before.lines, shelf->lines, shelf->lines_length);
+    before.used[0] = shelf->used[0];
     take_back(&lending, ONLY_READ, shelf);
-    insist(tally.agreed == (uint64_t)names_title(record, shelf),
-           "agreed tells whether the record names the line's article");
-    insist(record[0] != 'B' || tally.agreed == 1, "an order agrees with its own line");
+    insist_booked(record, &before, shelf);
     return answer;
+}
+
+/* A line that was found is the first with the key, and its last report is told. */
+static void insist_told(const uint8_t *const parts[KEY_PARTS], const size_t lengths[KEY_PARTS],
+                        const struct shelf *shelf)
+{
+    uint8_t key[IN_KEY];
+    size_t length = 0;
+    for (size_t i = 0; i < KEY_PARTS; length += lengths[i++]) {
+        insist(lengths[i] <= IN_KEY - length, "the fields of a key that is found make a key");
+        memcpy(key + length, parts[i], lengths[i]);
+    }
+    const uint8_t *line = length == IN_KEY ? line_with(shelf, key) : NULL;
+    insist(line != NULL, "a line that is told has the key");
+    const struct said said = said_on(line);
+    insist(is_same_said(&said, &tally.said), "the call by key tells what the last report said");
 }
 
 uint64_t both_line(const uint8_t *const parts[KEY_PARTS], const size_t lengths[KEY_PARTS],
@@ -492,7 +546,19 @@ uint64_t both_line(const uint8_t *const parts[KEY_PARTS], const size_t lengths[K
     add_shelf(&lending, shelf);
     uint64_t answer = run_both(&lending);
     insist(is_unchanged(&lending, 0), "a call by key changes nothing");
+    if (answer == 0)
+        insist_told(parts, lengths, shelf);
     return answer;
+}
+
+/* Whether a save has each line as it stands in the book, up to its mark. */
+static int is_save_of(const struct shelf *shelf, const uint8_t *saved)
+{
+    for (size_t i = 0; i < shelf->used[0]; i++, saved += IN_SAVED_LINE)
+        if (saved[0] != 1
+            || memcmp(saved + IN_KIND_BYTE, shelf->lines + i * IN_LINE, IN_BODY) != 0)
+            return 0;
+    return 1;
 }
 
 uint64_t both_save(struct shelf *shelf, uint8_t *out, size_t out_length)
@@ -503,17 +569,37 @@ uint64_t both_save(struct shelf *shelf, uint8_t *out, size_t out_length)
     add_piece(&lending, "out", out, out_length, 1);
     uint64_t answer = run_both(&lending);
     memcpy(out, copy_of(&lending, 0, 3), out_length);
+    insist(answer != 0 || is_save_of(shelf, out), "a save has the first 52 bytes of each line");
     return answer;
+}
+
+/* Whether each line that was loaded has the bytes of its save, and no message, and all behind
+   the lines and slips in use is as it was. */
+static int is_loaded(const uint8_t *saved, const struct shelf *before, const struct shelf *after)
+{
+    size_t lines = after->used[0] * IN_LINE, slips = after->used[1] * IN_SLIP;
+    for (size_t i = 0; i < after->used[0]; i++) {
+        const uint8_t *line = after->lines + i * IN_LINE;
+        if (memcmp(line, saved + i * IN_SAVED_LINE + IN_KIND_BYTE, IN_BODY) != 0
+            || !is_loaded_state(line))
+            return 0;
+    }
+    return memcmp(after->lines + lines, before->lines + lines, before->lines_length - lines) == 0
+        && memcmp(after->slips + slips, before->slips + slips, before->slips_length - slips) == 0;
 }
 
 uint64_t both_load(const uint8_t *saved, size_t length, struct shelf *shelf)
 {
+    static struct shelf before;
     struct lending lending = lend(LOAD);
     add_piece(&lending, "saved", saved, length, 1);
     add_shelf(&lending, shelf);
     uint64_t answer = run_both(&lending);
-    if (answer == 0)
-        take_back(&lending, 1, shelf);
+    if (answer != 0)
+        return answer;
+    before = *shelf;
+    take_back(&lending, 1, shelf);
+    insist(is_loaded(saved, &before, shelf), "a load fills its entries, without messages");
     return answer;
 }
 

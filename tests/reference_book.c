@@ -1,4 +1,4 @@
-/* The lent book: its soundness, the booking of records, and a line's figures by key. */
+/* The lent book: its soundness, the booking of records, and what a line tells by key. */
 #include "reference.h"
 #include "reference_parts.h"
 
@@ -22,11 +22,25 @@ int ref_rooms_fit(size_t lines_length, size_t slips_length)
         && slips_length >= SLIP_WIDTH && slips_length <= MOST_SLIPS * SLIP_WIDTH;
 }
 
+/* "No report yet" goes with mark none and no other, an unknown message with J or N, and eight
+   blanks with either; a message has an expected date in one of its three forms. */
+static int is_sound_report(const uint8_t *line)
+{
+    const uint8_t mark = line[LINE_MARK_PLACE], *expected = line + LINE_EXPECTED_PLACE;
+    size_t message = get_le16(line + LINE_MESSAGE_PLACE);
+    if (mark == MARK_NONE)
+        return message == NO_REPORT && is_blank_date(expected);
+    if (mark > MARK_LET_GO)
+        return 0;
+    if (message == MESSAGE_UNKNOWN)
+        return is_blank_date(expected);
+    return message <= MOST_MESSAGE && ref_expected_form(expected) != EXPECTED_NO_FORM;
+}
+
 static int is_sound_line(const uint8_t *line)
 {
     size_t ordered = get_le16(line + LINE_ORDERED_PLACE);
-    return ordered >= 1 && ordered <= MOST_COPIES
-        && line[LINE_MARK_PLACE] <= MARK_LET_GO
+    return ordered >= 1 && ordered <= MOST_COPIES && is_sound_report(line)
         && get_le32(line + LINE_ARRIVED_PLACE) <= MOST_ARRIVED;
 }
 
@@ -76,7 +90,7 @@ static size_t find_slip(const struct book *book, const uint8_t *key)
 
 static wq_booked refused(enum answer answer, size_t place)
 {
-    wq_booked booked = {0, 0, 0, 0, 0, 0, 0, 0};
+    wq_booked booked = {0};
     booked.answer = answer;
     booked.place = place;
     return booked;
@@ -84,7 +98,7 @@ static wq_booked refused(enum answer answer, size_t place)
 
 static wq_told not_told(enum answer answer)
 {
-    wq_told told = {0, 0, 0, 0, 0, 0, 0};
+    wq_told told = {0};
     told.answer = answer;
     return told;
 }
@@ -106,18 +120,39 @@ static wq_told figures_of(const uint8_t *line)
     return figures;
 }
 
-/* What a booking tells: the figures of its line, and whether the record's title, article and
+/* What a line tells: its figures, and its last report's message and expected date. */
+static wq_told tell_line(const uint8_t *line)
+{
+    const uint8_t *expected = line + LINE_EXPECTED_PLACE;
+    wq_told told = figures_of(line);
+    told.message = get_le16(line + LINE_MESSAGE_PLACE);
+    told.expected = ref_expected_form(expected);
+    if (told.expected == EXPECTED_DAY) {
+        struct day day = ref_day_of(expected);
+        told.year = day.year;
+        told.month = day.month;
+        told.day = day.day;
+    }
+    return told;
+}
+
+/* What a booking tells: what its line does, and whether the record's title, article and
    qualifier, is the one that is kept in the line. */
 static wq_booked booked_on(const uint8_t *line, const uint8_t *title)
 {
-    wq_told figures = figures_of(line);
+    wq_told told = tell_line(line);
     wq_booked booked = refused(DONE, 0);
-    booked.ordered = figures.ordered;
-    booked.filled = figures.filled;
-    booked.still_open = figures.still_open;
-    booked.let_go = figures.let_go;
-    booked.extra = figures.extra;
+    booked.ordered = told.ordered;
+    booked.filled = told.filled;
+    booked.still_open = told.still_open;
+    booked.let_go = told.let_go;
+    booked.extra = told.extra;
     booked.agreed = memcmp(line + LINE_TITLE_PLACE, title, TITLE_WIDTH) == 0;
+    booked.message = told.message;
+    booked.expected = told.expected;
+    booked.year = told.year;
+    booked.month = told.month;
+    booked.day = told.day;
     return booked;
 }
 
@@ -174,6 +209,7 @@ static wq_booked book_order(const struct book *book, const uint8_t *record, cons
     memcpy(line + LINE_TITLE_PLACE, title, TITLE_WIDTH);
     put_le16(line + LINE_ORDERED_PLACE, copies);
     line[LINE_MARK_PLACE] = MARK_NONE;
+    put_no_message(line, NO_REPORT);
     put_le32(line + LINE_ARRIVED_PLACE, 0);
     used[0]++;
     return booked_on(line, title);
@@ -219,7 +255,7 @@ static wq_booked book_delivery(const struct book *book, const uint8_t *record,
     return booked_on(line, record + DELIVERY_TITLE_PLACE);
 }
 
-/* An accepted report sets the mark (field 11 only); 16. */
+/* An accepted report sets the mark, the message and the expected date; 16. */
 static wq_booked book_report(const struct book *book, const uint8_t *record,
                              const uint8_t *key, uint8_t *lines)
 {
@@ -227,7 +263,10 @@ static wq_booked book_report(const struct book *book, const uint8_t *record,
     if (index == book->used_lines)
         return refused(NO_SUCH_LINE, 0);
     uint8_t *line = lines + index * LINE_WIDTH;
+    size_t message = ref_number(record + REPORT_MESSAGE_PLACE, MESSAGE_WIDTH);
     line[LINE_MARK_PLACE] = record[REPORT_HOLD_PLACE] == 'N' ? MARK_LET_GO : MARK_HELD;
+    put_le16(line + LINE_MESSAGE_PLACE, message);
+    memcpy(line + LINE_EXPECTED_PLACE, record + REPORT_EXPECTED_PLACE, DATE_WIDTH);
     return booked_on(line, record + REPORT_TITLE_PLACE);
 }
 
@@ -283,7 +322,7 @@ static int join_key(const struct key_part *parts, uint8_t *key)
     return 1;
 }
 
-/* A call by key gives a line's figures, or 20, then 16; a key field of wrong length
+/* A call by key gives what a line tells, or 20, then 16; a key field of wrong length
    matches no line. */
 wq_told ref_line(const uint8_t *school, size_t school_length,
                  const uint8_t *school_qualifier, size_t school_qualifier_length,
@@ -307,5 +346,5 @@ wq_told ref_line(const uint8_t *school, size_t school_length,
     if (!join_key(parts, key))
         return not_told(NO_SUCH_LINE);
     size_t index = find_line(&book, key);
-    return index < book.used_lines ? figures_of(line_at(&book, index)) : not_told(NO_SUCH_LINE);
+    return index < book.used_lines ? tell_line(line_at(&book, index)) : not_told(NO_SUCH_LINE);
 }

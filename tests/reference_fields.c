@@ -88,17 +88,36 @@ static size_t days_in_month(size_t year, size_t month)
     return days[month - 1] + (size_t)(month == 2 && leap);
 }
 
+/* Year, month and day of eight digits. */
+struct day ref_day_of(const uint8_t *digits)
+{
+    struct day day;
+    day.year = ref_number(digits, YEAR_WIDTH);
+    day.month = ref_number(digits + YEAR_WIDTH, MONTH_WIDTH);
+    day.day = ref_number(digits + YEAR_WIDTH + MONTH_WIDTH, DAY_WIDTH);
+    return day;
+}
+
 /* "Date: eight digits of a real Gregorian day, years 0001 to 9999." */
 int ref_is_real_day(const uint8_t *date)
 {
     if (!ref_all_digits(date, DATE_WIDTH))
         return 0;
-    size_t year = ref_number(date, 4);
-    size_t month = ref_number(date + 4, 2);
-    size_t day = ref_number(date + 6, 2);
-    if (year == 0 || month == 0 || month > 12 || day == 0)
+    struct day it = ref_day_of(date);
+    if (it.year == 0 || it.month == 0 || it.month > 12 || it.day == 0)
         return 0;
-    return day <= days_in_month(year, month);
+    return it.day <= days_in_month(it.year, it.month);
+}
+
+/* "An expected date is a day, eight zeros (001) or eight blanks (004), and which of the three
+   it was is kept." */
+enum expected_form ref_expected_form(const uint8_t *date)
+{
+    if (is_blank_date(date))
+        return EXPECTED_BLANKS;
+    if (memcmp(date, "00000000", DATE_WIDTH) == 0)
+        return EXPECTED_ZEROS;
+    return ref_is_real_day(date) ? EXPECTED_DAY : EXPECTED_NO_FORM;
 }
 
 /* "Address: one or more digits or capitals, then blanks only." */

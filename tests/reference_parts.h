@@ -6,6 +6,7 @@
 
 #include <stddef.h>
 #include <stdint.h>
+#include <string.h>
 
 /* Widths of the fixed fields, in bytes. A party is an address with its qualifier, a title an
    article with its qualifier. */
@@ -14,6 +15,7 @@ enum {
     REFERENCE_WIDTH = 10, SLIP_NUMBER_WIDTH = 10, POSITION_WIDTH = 4,
     ARTICLE_WIDTH = 13, QUANTITY_WIDTH = 4, PRICE_WIDTH = 15, CURRENCY_WIDTH = 3,
     DISCOUNT_WIDTH = 8, TAX_MARK_WIDTH = 1, MESSAGE_WIDTH = 3, HOLD_MARK_WIDTH = 1,
+    YEAR_WIDTH = 4, MONTH_WIDTH = 2, DAY_WIDTH = 2,
     PARTY_WIDTH = ADDRESS_WIDTH + QUALIFIER_WIDTH,
     TITLE_WIDTH = ARTICLE_WIDTH + QUALIFIER_WIDTH
 };
@@ -37,8 +39,10 @@ enum {
                       + QUALIFIER_WIDTH + CURRENCY_WIDTH + DISCOUNT_WIDTH + TAX_MARK_WIDTH,
     REPORT_REFERENCE_PLACE = PARTIES_END + SLIP_NUMBER_WIDTH,
     REPORT_TITLE_PLACE = REPORT_REFERENCE_PLACE + REFERENCE_WIDTH,
-    REPORT_HOLD_PLACE = REPORT_TITLE_PLACE + TITLE_WIDTH + MESSAGE_WIDTH,
-    REPORT_LENGTH = REPORT_HOLD_PLACE + HOLD_MARK_WIDTH + DATE_WIDTH + QUANTITY_WIDTH
+    REPORT_MESSAGE_PLACE = REPORT_TITLE_PLACE + TITLE_WIDTH,
+    REPORT_HOLD_PLACE = REPORT_MESSAGE_PLACE + MESSAGE_WIDTH,
+    REPORT_EXPECTED_PLACE = REPORT_HOLD_PLACE + HOLD_MARK_WIDTH,
+    REPORT_LENGTH = REPORT_EXPECTED_PLACE + DATE_WIDTH + QUANTITY_WIDTH
 };
 
 /* Limits of records and of their optional part. */
@@ -53,14 +57,16 @@ enum {
     SCHOOL_WIDTH = SCHOOL_CEILING_PLACE + CEILING_WIDTH, MOST_SCHOOLS = 64
 };
 
-/* The lent book and the saved book. */
+/* The lent book and the saved book. A line's body is what a save holds of it. */
 enum {
     LINE_KEY_WIDTH = 2 * PARTY_WIDTH + REFERENCE_WIDTH,
     LINE_TITLE_PLACE = LINE_KEY_WIDTH,
     LINE_ORDERED_PLACE = LINE_TITLE_PLACE + TITLE_WIDTH,
     LINE_MARK_PLACE = LINE_ORDERED_PLACE + 2,
     LINE_BODY_WIDTH = LINE_MARK_PLACE + 1,
-    LINE_ARRIVED_PLACE = LINE_BODY_WIDTH,
+    LINE_MESSAGE_PLACE = LINE_BODY_WIDTH,
+    LINE_EXPECTED_PLACE = LINE_MESSAGE_PLACE + 2,
+    LINE_ARRIVED_PLACE = LINE_EXPECTED_PLACE + DATE_WIDTH,
     LINE_WIDTH = LINE_ARRIVED_PLACE + 4,
     SLIP_KEY_WIDTH = 2 * PARTY_WIDTH + DATE_WIDTH + SLIP_NUMBER_WIDTH + POSITION_WIDTH,
     SLIP_LINE_PLACE = SLIP_KEY_WIDTH,
@@ -69,6 +75,7 @@ enum {
     MOST_LINES = 512, MOST_SLIPS = 1024,
     MOST_COPIES = 9999, MOST_ARRIVED = 9999999,
     MARK_NONE = 0, MARK_HELD = 1, MARK_LET_GO = 2,
+    MOST_MESSAGE = 999, MESSAGE_UNKNOWN = 65534, NO_REPORT = 65535,
     SAVED_END = 0, SAVED_LINE = 1, SAVED_SLIP = 2,
     SAVED_LINE_WIDTH = 1 + LINE_BODY_WIDTH,
     SAVED_SLIP_WIDTH = 1 + SLIP_WIDTH,
@@ -87,6 +94,13 @@ enum answer {
 };
 
 enum record_kind { NO_KIND, ORDER, DELIVERY, REPORT };
+
+/* The three forms of an expected date, by their numbers; other bytes have none. */
+enum expected_form {
+    EXPECTED_NO_FORM = 0, EXPECTED_DAY = 1, EXPECTED_ZEROS = 2, EXPECTED_BLANKS = 3
+};
+
+struct day { size_t year, month, day; };
 
 struct verdict { uint64_t answer, place; };
 
@@ -108,7 +122,9 @@ int ref_is_allowed(uint8_t byte);
 size_t ref_first_not_allowed(const uint8_t *bytes, size_t length);
 int ref_all_digits(const uint8_t *bytes, size_t length);
 size_t ref_number(const uint8_t *digits, size_t length);
+struct day ref_day_of(const uint8_t *digits);
 int ref_is_real_day(const uint8_t *date);
+enum expected_form ref_expected_form(const uint8_t *date);
 int ref_is_address(const uint8_t *address);
 int ref_is_address_qualifier(const uint8_t *qualifier);
 int ref_is_article(const uint8_t *article, const uint8_t *qualifier);
@@ -181,6 +197,18 @@ static inline void put_le64(uint8_t *bytes, uint64_t number)
 {
     put_le32(bytes, (size_t)(number & 0xffffffff));
     put_le32(bytes + 4, (size_t)(number >> 32));
+}
+
+static inline int is_blank_date(const uint8_t *date)
+{
+    return memcmp(date, "        ", DATE_WIDTH) == 0;
+}
+
+/* A line without a message: no report came, or what it said is unknown. */
+static inline void put_no_message(uint8_t *line, size_t why)
+{
+    put_le16(line + LINE_MESSAGE_PLACE, why);
+    memset(line + LINE_EXPECTED_PLACE, ' ', DATE_WIDTH);
 }
 
 #endif

@@ -130,12 +130,6 @@ static int is_reference(const uint8_t *reference)
     return reference[0] != ' ' || all_equal(reference, REFERENCE_WIDTH, ' ');
 }
 
-static int is_expected_day(const uint8_t *date)
-{
-    return all_equal(date, DATE_WIDTH, '0') || all_equal(date, DATE_WIDTH, ' ')
-        || ref_is_real_day(date);
-}
-
 /* Document 01's field rules, for one fixed field. An article's qualifier follows it. */
 static int keeps_rule(enum fixed_rule rule, const uint8_t *field, size_t width)
 {
@@ -144,7 +138,7 @@ static int keeps_rule(enum fixed_rule rule, const uint8_t *field, size_t width)
     case AS_ADDRESS: return ref_is_address(field);
     case AS_ADDRESS_QUALIFIER: return ref_is_address_qualifier(field);
     case AS_DAY: return ref_is_real_day(field);
-    case AS_EXPECTED_DAY: return is_expected_day(field);
+    case AS_EXPECTED_DAY: return ref_expected_form(field) != EXPECTED_NO_FORM;
     case AS_REFERENCE: return is_reference(field);
     case AS_ORDER_REFERENCE: return is_reference(field) && !holds_barred(field, width);
     case AS_ARTICLE: return ref_is_article(field, field + width);

@@ -153,12 +153,14 @@ static int is_valid_save(const uint8_t *saved, size_t length, struct saved_book 
         && !sum_over_limit(save);
 }
 
-/* Copies a valid save into the rooms; each line's A is the sum of its slips. */
+/* Copies a valid save into the rooms; each line's A is the sum of its slips. What the last
+   report said besides its mark is not in the save: "load with a mark makes them unknown". */
 static void fill_book(const struct saved_book *save, uint8_t *lines, uint8_t *slips)
 {
     for (size_t i = 0; i < save->lines; i++) {
         uint8_t *line = lines + i * LINE_WIDTH;
         memcpy(line, line_body(save, i), LINE_BODY_WIDTH);
+        put_no_message(line, line[LINE_MARK_PLACE] == MARK_NONE ? NO_REPORT : MESSAGE_UNKNOWN);
         put_le32(line + LINE_ARRIVED_PLACE, 0);
     }
     for (size_t i = 0; i < save->slips; i++) {

@@ -1,6 +1,7 @@
 /* Document 01's samples with the values it states, document 02's clerk and his roster, titles
-   with its typographic marks, a supplier that answers with its own number, and the bundles of
-   documents 001 and 004, held against both implementations. */
+   with its typographic marks, a supplier that answers with its own number, teachers who ask
+   why a title is late, and the bundles of documents 001 and 004, held against both
+   implementations. */
 #include "lending.h"
 #include "reference.h"
 
@@ -16,8 +17,9 @@
     copies "000000000129500LPEUR003000001"
 #define Y_FIXED(slip, position, copies) Y_OF(ISBN, slip, position, copies)
 #define Y(slip, position, copies) Y_FIXED(slip, position, copies) END
-#define Z_OF(title, message) \
-    "M10124000     VD43210     VD70012345  A-17      " title message "        0000*9999"
+#define Z_DATED(title, message, date) \
+    "M10124000     VD43210     VD70012345  A-17      " title message date "0000*9999"
+#define Z_OF(title, message) Z_DATED(title, message, "        ")
 #define Z(message) Z_OF(ISBN, message)
 #define ISBN "9783442756841EN"
 #define OWN "1234567      UM"
@@ -131,35 +133,64 @@ static const struct bundle_sample bundle_samples[] = {
     {BUNDLE_001("6") LOOP("1", "1262*1030NO", "180000*1030LP", "1", "PHY") END, 9, 0}
 };
 
-/* The desk program's sample: record, then answer, the five figures and whether the articles
-   agreed, which all of its records do. It leaves one line and three slips. */
-struct booking_sample { const char *record; uint64_t answer, figures[5], agreed; };
+/* What the last report said: none yet, or a message with eight blanks, with eight zeros or with
+   a day; nothing on a refusal. */
+#define NO_REPORT {65535, 3, 0, 0, 0}
+#define BLANK(message) {message, 3, 0, 0, 0}
+#define ZEROED(message) {message, 2, 0, 0, 0}
+#define DATED(message, year, month, day) {message, 1, year, month, day}
+#define NOTHING {0, 0, 0, 0, 0}
+
+/* The desk program's sample: record, then answer, the five figures, whether the articles
+   agreed, which all of its records do, and what the last report said. It leaves one line and
+   three slips. */
+struct booking_sample {
+    const char *record;
+    uint64_t answer, figures[5], agreed;
+    struct said said;
+};
 static const struct booking_sample desk_sample[] = {
-    {X END, 0, {10, 0, 10, 0, 0}, 1},
-    {Y(SLIP, "0001", "0004"), 0, {10, 4, 6, 0, 0}, 1},
-    {Y(SLIP, "0001", "0004"), 17, {0, 0, 0, 0, 0}, 0},
-    {Z("010N"), 0, {10, 4, 0, 6, 0}, 1},
-    {Y(SLIP, "0002", "0003"), 0, {10, 7, 0, 3, 0}, 1},
-    {Z("015J"), 0, {10, 7, 3, 0, 0}, 1},
-    {Y(SLIP, "0003", "0005"), 0, {10, 10, 0, 0, 2}, 1},
-    {Y(SLIP, "0001", "0005"), 18, {0, 0, 0, 0, 0}, 0},
-    {Y("          ", "0001", "0004"), 13, {0, 0, 0, 0, 0}, 0}
+    {X END, 0, {10, 0, 10, 0, 0}, 1, NO_REPORT},
+    {Y(SLIP, "0001", "0004"), 0, {10, 4, 6, 0, 0}, 1, NO_REPORT},
+    {Y(SLIP, "0001", "0004"), 17, {0, 0, 0, 0, 0}, 0, NOTHING},
+    {Z("010N"), 0, {10, 4, 0, 6, 0}, 1, BLANK(10)},
+    {Y(SLIP, "0002", "0003"), 0, {10, 7, 0, 3, 0}, 1, BLANK(10)},
+    {Z("015J"), 0, {10, 7, 3, 0, 0}, 1, BLANK(15)},
+    {Y(SLIP, "0003", "0005"), 0, {10, 10, 0, 0, 2}, 1, BLANK(15)},
+    {Y(SLIP, "0001", "0005"), 18, {0, 0, 0, 0, 0}, 0, NOTHING},
+    {Y("          ", "0001", "0004"), 13, {0, 0, 0, 0, 0}, 0, NOTHING}
+};
+
+/* The same order with reports that expect it in each of the three forms; message 000 is a
+   message. It leaves the same counts and figures. */
+static const struct booking_sample late_sample[] = {
+    {X END, 0, {10, 0, 10, 0, 0}, 1, NO_REPORT},
+    {Z_DATED(ISBN, "000J", "20240229"), 0, {10, 0, 10, 0, 0}, 1, DATED(0, 2024, 2, 29)},
+    {Y(SLIP, "0001", "0004"), 0, {10, 4, 6, 0, 0}, 1, DATED(0, 2024, 2, 29)},
+    {Z_DATED(ISBN, "000J", "20230229"), 5, {0, 0, 0, 0, 0}, 0, NOTHING},
+    {Z_DATED(ISBN, "999N", "00000000"), 0, {10, 4, 0, 6, 0}, 1, ZEROED(999)},
+    {Z_DATED(OWN, "000N", "00010101"), 0, {10, 4, 0, 6, 0}, 0, DATED(0, 1, 1, 1)},
+    {Y(SLIP, "0002", "0003"), 0, {10, 7, 0, 3, 0}, 1, DATED(0, 1, 1, 1)},
+    {X END, 14, {0, 0, 0, 0, 0}, 0, NOTHING},
+    {Z_DATED(ISBN, "256J", "99991231"), 0, {10, 7, 3, 0, 0}, 1, DATED(256, 9999, 12, 31)},
+    {Z("015J"), 0, {10, 7, 3, 0, 0}, 1, BLANK(15)},
+    {Y(SLIP, "0003", "0005"), 0, {10, 10, 0, 0, 2}, 1, BLANK(15)}
 };
 
 /* Document 02's supplier, which answers an order by ISBN with its own number. It leaves the
    same counts and figures. */
 static const struct booking_sample own_number_sample[] = {
-    {X END, 0, {10, 0, 10, 0, 0}, 1},
-    {Y_OF(OWN, SLIP, "0001", "0004") END, 0, {10, 4, 6, 0, 0}, 0},
-    {Y(SLIP, "0001", "0004"), 17, {0, 0, 0, 0, 0}, 0},
-    {Y_OF(OWN, SLIP, "0001", "0004") END, 17, {0, 0, 0, 0, 0}, 0},
-    {Y_OF(OWN, SLIP, "0001", "0005") END, 18, {0, 0, 0, 0, 0}, 0},
-    {Z_OF(OWN, "010N"), 0, {10, 4, 0, 6, 0}, 0},
-    {Y(SLIP, "0002", "0003"), 0, {10, 7, 0, 3, 0}, 1},
-    {Z("015J"), 0, {10, 7, 3, 0, 0}, 1},
-    {X_OF(OWN) END, 14, {0, 0, 0, 0, 0}, 0},
-    {X_OF(AS_OWN) END, 14, {0, 0, 0, 0, 0}, 0},
-    {Y_OF(AS_OWN, SLIP, "0003", "0005") END, 0, {10, 10, 0, 0, 2}, 0}
+    {X END, 0, {10, 0, 10, 0, 0}, 1, NO_REPORT},
+    {Y_OF(OWN, SLIP, "0001", "0004") END, 0, {10, 4, 6, 0, 0}, 0, NO_REPORT},
+    {Y(SLIP, "0001", "0004"), 17, {0, 0, 0, 0, 0}, 0, NOTHING},
+    {Y_OF(OWN, SLIP, "0001", "0004") END, 17, {0, 0, 0, 0, 0}, 0, NOTHING},
+    {Y_OF(OWN, SLIP, "0001", "0005") END, 18, {0, 0, 0, 0, 0}, 0, NOTHING},
+    {Z_OF(OWN, "010N"), 0, {10, 4, 0, 6, 0}, 0, BLANK(10)},
+    {Y(SLIP, "0002", "0003"), 0, {10, 7, 0, 3, 0}, 1, BLANK(10)},
+    {Z("015J"), 0, {10, 7, 3, 0, 0}, 1, BLANK(15)},
+    {X_OF(OWN) END, 14, {0, 0, 0, 0, 0}, 0, NOTHING},
+    {X_OF(AS_OWN) END, 14, {0, 0, 0, 0, 0}, 0, NOTHING},
+    {Y_OF(AS_OWN, SLIP, "0003", "0005") END, 0, {10, 10, 0, 0, 2}, 0, BLANK(15)}
 };
 
 /* Document 02's clerk typed 43201 for 43210. An order of ten copies, the entries of the
@@ -296,7 +327,7 @@ static void run_bundle_samples(const struct side *side)
     }
 }
 
-/* The figures of the samples' line by its key. */
+/* What the samples' line tells by its key. */
 static void ask_sample_line(const struct side *side, const uint8_t *lines, size_t lines_length,
                             const uint8_t *slips, size_t slips_length, const size_t *used)
 {
@@ -307,6 +338,22 @@ static void ask_sample_line(const struct side *side, const uint8_t *lines, size_
     insist(told.answer == 0 && told.place == 0 && told.ordered == 10 && told.filled == 10
            && told.still_open == 0 && told.let_go == 0 && told.extra == 2,
            "the line of the samples is filled, with two copies extra");
+    insist(told.message == 15 && told.expected == 3 && told.year == 0 && told.month == 0
+           && told.day == 0, "the last message of the samples is 015, without a date");
+}
+
+/* Whether a booking gives what the sample states. */
+static int is_as_stated(const wq_booked *booked, const struct booking_sample *sample)
+{
+    const uint64_t *wanted = sample->figures;
+    const struct said said = {booked->message, booked->expected, booked->year, booked->month,
+                              booked->day};
+    return booked->answer == sample->answer
+        && (booked->place == 0 || booked->answer == WQ_FIXED_FIELD)
+        && booked->ordered == wanted[0] && booked->filled == wanted[1]
+        && booked->still_open == wanted[2] && booked->let_go == wanted[3]
+        && booked->extra == wanted[4] && booked->agreed == sample->agreed
+        && is_same_said(&said, &sample->said);
 }
 
 static void run_bookings(const struct side *side, const struct booking_sample *samples,
@@ -318,15 +365,11 @@ static void run_bookings(const struct side *side, const struct booking_sample *s
     size_t used[2] = {0, 0};
     for (size_t i = 0; i < count; i++) {
         const char *record = samples[i].record;
-        const uint64_t *wanted = samples[i].figures;
         wq_booked booked = side->book((const uint8_t *)record, strlen(record),
                                       (const uint8_t *)&ours, sizeof ours, lines,
                                       sizeof lines, slips, sizeof slips, used);
         tally.calls++;
-        if (booked.answer != samples[i].answer || booked.place != 0
-            || booked.ordered != wanted[0] || booked.filled != wanted[1]
-            || booked.still_open != wanted[2] || booked.let_go != wanted[3]
-            || booked.extra != wanted[4] || booked.agreed != samples[i].agreed)
+        if (!is_as_stated(&booked, &samples[i]))
             differs(side, record, booked.answer, booked.place);
     }
     insist(used[0] == 1 && used[1] == 3, "the samples leave one line and three slips");
@@ -378,6 +421,7 @@ void run_samples(void)
             run_title_sample(&sides[i], &title_samples[j]);
         run_bundle_samples(&sides[i]);
         run_bookings(&sides[i], desk_sample, sizeof desk_sample / sizeof desk_sample[0]);
+        run_bookings(&sides[i], late_sample, sizeof late_sample / sizeof late_sample[0]);
         run_bookings(&sides[i], own_number_sample,
                      sizeof own_number_sample / sizeof own_number_sample[0]);
         run_roster_samples(&sides[i]);

@@ -1,0 +1,130 @@
+/* What a line holds of its last report: generated states of all kinds, and what they tell,
+   stated here a second time on purpose. */
+#include "inputs.h"
+
+#include <string.h>
+
+void make_expected(struct dice *dice, enum form form, uint8_t *date)
+{
+    if (form == A_DAY)
+        make_day(dice, date);
+    else
+        memset(date, form == ZEROS ? '0' : ' ', IN_DAY);
+}
+
+/* Message numbers whose ends come often. */
+size_t make_message(struct dice *dice)
+{
+    static const size_t ends[] = {0, 1, 255, 256, 511, 512, 998, IN_MOST_MESSAGE};
+    return chance(dice, 3) ? ends[below(dice, sizeof ends / sizeof ends[0])]
+                           : below(dice, IN_MOST_MESSAGE + 1);
+}
+
+void put_state(uint8_t *line, uint8_t mark, size_t message, const uint8_t *date)
+{
+    line[IN_MARK] = mark;
+    put_little(line + IN_MESSAGE, IN_EXPECTED - IN_MESSAGE, message);
+    memcpy(line + IN_EXPECTED, date, IN_DAY);
+}
+
+/* Any sound state with this mark: without a report there is one; with a report its message and
+   date are known, or not since the book was loaded. */
+void make_state(struct dice *dice, uint8_t *line, uint8_t mark)
+{
+    uint8_t date[IN_DAY];
+    size_t message = make_message(dice);
+    enum form form = (enum form)below(dice, FORMS);
+    if (mark == IN_NO_MARK)
+        message = IN_NO_REPORT;
+    else if (chance(dice, 4))
+        message = IN_UNKNOWN;
+    make_expected(dice, message > IN_MOST_MESSAGE ? BLANKS : form, date);
+    put_state(line, mark, message, date);
+}
+
+void make_any_state(struct dice *dice, uint8_t *line)
+{
+    make_state(dice, line, (uint8_t)below(dice, IN_LET_GO + 1));
+}
+
+/* A real day, told by its text: month and day are held against the last day of each month. */
+static int is_day(const uint8_t *date)
+{
+    static const char last_days[][5] = {"0131", "0228", "0331", "0430", "0531", "0630",
+                                        "0731", "0831", "0930", "1031", "1130", "1231"};
+    size_t month = 0;
+    for (size_t i = 0; i < IN_DAY; i++)
+        if (strchr("0123456789", date[i]) == NULL || date[i] == 0)
+            return 0;
+    size_t year = get_digits(date, 4);
+    if (year == 0 || memcmp(date + IN_DAY_OF_MONTH, "00", 2) == 0)
+        return 0;
+    if (memcmp(date + IN_MONTH, "0229", 4) == 0)
+        return year % 400 == 0 || (year % 4 == 0 && year % 100 != 0);
+    while (month < 12 && memcmp(date + IN_MONTH, last_days[month], 2) != 0)
+        month++;
+    return month < 12 && memcmp(date + IN_MONTH, last_days[month], 4) <= 0;
+}
+
+/* Whether mark, message and date of a line go together, stated here a second time on purpose. */
+int is_sound_state(const uint8_t *line)
+{
+    const uint8_t *date = line + IN_EXPECTED;
+    size_t message = get_little(line + IN_MESSAGE, 2);
+    int blank = memcmp(date, "        ", IN_DAY) == 0;
+    int reported = line[IN_MARK] == IN_HELD || line[IN_MARK] == IN_LET_GO;
+    if (message == IN_NO_REPORT)
+        return line[IN_MARK] == IN_NO_MARK && blank;
+    if (message == IN_UNKNOWN)
+        return reported && blank;
+    return reported && message <= IN_MOST_MESSAGE
+        && (blank || memcmp(date, "00000000", IN_DAY) == 0 || is_day(date));
+}
+
+/* The form of a sound date is told by few of its bytes: no day begins with a blank, and none
+   has the month 00. */
+struct said said_on(const uint8_t *line)
+{
+    const uint8_t *date = line + IN_EXPECTED;
+    struct said said = {get_little(line + IN_MESSAGE, 2), IN_AS_DAY, 0, 0, 0};
+    if (date[0] == ' ') {
+        said.expected = IN_AS_BLANKS;
+    } else if (memcmp(date + IN_MONTH, "00", 2) == 0) {
+        said.expected = IN_AS_ZEROS;
+    } else {
+        said.year = get_digits(date, 4);
+        said.month = get_digits(date + IN_MONTH, 2);
+        said.day = get_digits(date + IN_DAY_OF_MONTH, 2);
+    }
+    return said;
+}
+
+int is_same_said(const struct said *one, const struct said *other)
+{
+    return one->message == other->message && one->expected == other->expected
+        && one->year == other->year && one->month == other->month && one->day == other->day;
+}
+
+/* What a booking leaves of a line's last report, mark, message and date: an order has none, a
+   delivery changes nothing, a report sets all of it. */
+void state_after(const uint8_t *record, const uint8_t *before, uint8_t *state)
+{
+    uint8_t line[IN_LINE];
+    if (record[0] == 'B')
+        put_state(line, IN_NO_MARK, IN_NO_REPORT, (const uint8_t *)"        ");
+    else if (record[0] == 'L')
+        memcpy(line, before, IN_LINE);
+    else
+        put_state(line, record[IN_REPORT_HOLD] == 'J' ? IN_HELD : IN_LET_GO,
+                  get_digits(record + IN_REPORT_MESSAGE, IN_MESSAGE_DIGITS),
+                  record + IN_REPORT_EXPECTED);
+    memcpy(state, line + IN_MARK, IN_STATE);
+}
+
+/* What a load makes of the message and date behind a mark, whatever stood there. */
+int is_loaded_state(const uint8_t *line)
+{
+    size_t wanted = line[IN_MARK] == IN_NO_MARK ? IN_NO_REPORT : IN_UNKNOWN;
+    return get_little(line + IN_MESSAGE, 2) == wanted
+        && memcmp(line + IN_EXPECTED, "        ", IN_DAY) == 0;
+}
