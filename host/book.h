@@ -15,7 +15,8 @@ struct book {
    the highest ceiling; so nothing is refused for a roster. */
 wq_booked book_record(struct book *book, const struct record *record);
 
-/* The figures of the line with this key, all of its fields in a row. */
+/* The figures of the line with this key, all of its fields in a row, and what its last report
+   said. */
 wq_told book_figures(const struct book *book, const uint8_t key[WQ_LINE_KEY_WIDTH]);
 
 /* The copies that are open on all lines of a school. */

@@ -371,8 +371,8 @@ int book_file_save_bytes(const struct book_file *file, const struct book *book,
     return 1;
 }
 
-/* Writes all new files; none has taken its name yet. A book that did not change stays, and
-   so does the one before it. */
+/* Writes all new files; none has taken its name yet. A book whose saved bytes did not change
+   stays, and so does the one before it; they hold no message and no expected date. */
 static int write_all(struct book_file *file, const struct saved *saved)
 {
     struct own_files *files = &file->files;

@@ -14,7 +14,8 @@ enum { SUPPLIER_LETTERS = 14, REFERENCE_LETTERS = 12, ARTICLE_LETTERS = 16,
 /* A room is nearly full where one part of this many, or less, is free. */
 enum { NEARLY_FULL = 10, WARNING_ROOM = 100 };
 
-#define FIGURES_FORMAT " %8" PRIu64 " %8" PRIu64 " %8" PRIu64 " %5s %8" PRIu64 " %8" PRIu64 "\n"
+#define FIGURES_FORMAT " %8" PRIu64 " %8" PRIu64 " %8" PRIu64 " %5s %8" PRIu64 " %8" PRIu64
+#define MESSAGE_FORMAT "  %03" PRIu64 "      "      /* as wide as its heading */
 
 /* Sums over several lines, and how many lines they are. */
 struct sums { uint64_t lines, ordered, filled, still_open, let_go, extra; };
@@ -53,6 +54,21 @@ static void print_who(const char *supplier, const char *reference, const char *a
     print_padded(article, ARTICLE_LETTERS);
 }
 
+/* What the line's last report said. Zeros and blanks for a day mean the same to whoever waits
+   for the title: none was named. A save keeps the mark alone of a report. */
+static void print_report(const wq_told *figures)
+{
+    if (figures->message == WQ_NO_REPORT)
+        printf("  no report yet\n");
+    else if (figures->message == WQ_MESSAGE_UNKNOWN)
+        printf("  message of an earlier run, not kept\n");
+    else if (figures->expected == WQ_EXPECTED_DAY)
+        printf(MESSAGE_FORMAT "%04" PRIu64 "%02" PRIu64 "%02" PRIu64 "\n", figures->message,
+               figures->year, figures->month, figures->day);
+    else
+        printf(MESSAGE_FORMAT "no day named\n", figures->message);
+}
+
 static void print_line(const uint8_t *line, const wq_told *figures)
 {
     char supplier[ACCOUNT_ROOM], reference[TEXT_ROOM], article[ACCOUNT_ROOM];
@@ -62,6 +78,7 @@ static void print_line(const uint8_t *line, const wq_told *figures)
     print_who(supplier, reference, article);
     printf(FIGURES_FORMAT, figures->ordered, figures->filled, figures->still_open,
            mark_of(line), figures->let_go, figures->extra);
+    print_report(figures);
 }
 
 static void print_sums(const char *what, const struct sums *sums)
@@ -71,7 +88,7 @@ static void print_sums(const char *what, const struct sums *sums)
              sums->lines == 1 ? "" : "s");
     printf("  ");
     print_padded(note, NOTE_LETTERS);
-    printf(FIGURES_FORMAT, sums->ordered, sums->filled, sums->still_open, "", sums->let_go,
+    printf(FIGURES_FORMAT "\n", sums->ordered, sums->filled, sums->still_open, "", sums->let_go,
            sums->extra);
 }
 
@@ -81,7 +98,8 @@ static void print_head(const uint8_t *line)
     text_with_qualifier(line + WQ_LINE_SCHOOL, WQ_ADDRESS_WIDTH, school);
     printf("\nSchool %s\n", school);
     print_who("supplier", "reference", "article");
-    printf(" %8s %8s %8s %5s %8s %8s\n", "ordered", "filled", "open", "mark", "let go", "extra");
+    printf(" %8s %8s %8s %5s %8s %8s  message  expected\n", "ordered", "filled", "open", "mark",
+           "let go", "extra");
 }
 
 /* Prints the lines of one school, which stand together; returns how many they are. */

@@ -31,13 +31,13 @@ list_of_run() { sed -n '/^School/,$p' out | sed 's/  */ /g' | grep -v '^ supplie
 list_of_run >got
 cat >wanted <<'LIST'
 School 43210 IB
- 24000 VD A-17 9783442756841 EN 8 0 8 - 0 0
+ 24000 VD A-17 9783442756841 EN 8 0 8 - 0 0 no report yet
  total: 1 line 8 0 8 0 0
 
 School 43210 VD
- 24000 VD A-15 9783442756841 EN 2 0 0 N 2 0
- 24000 VD A-16 9783442756841 EN 3 0 3 - 0 0
- 24000 VD A-17 9783442756841 EN 10 4 6 - 0 0
+ 24000 VD A-15 9783442756841 EN 2 0 0 N 2 0 010 no day named
+ 24000 VD A-16 9783442756841 EN 3 0 3 - 0 0 no report yet
+ 24000 VD A-17 9783442756841 EN 10 4 6 - 0 0 no report yet
  total: 3 lines 15 4 9 2 0
 
 School 43211 VD
@@ -52,7 +52,8 @@ expect_text got wanted "two schools' list"
 run schools.book
 expect_code 0 "list alone"
 list_of_run >got
-expect_text got wanted "list alone"
+sed 's/ 010 no day named$/ message of an earlier run, not kept/' wanted >later
+expect_text got later "list alone"
 expect_silent "list alone"
 
 # --- each fixed field is named where it breaks its rule ---------------------------------------

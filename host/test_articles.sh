@@ -65,10 +65,10 @@ expect_text got again "articles, repeated at the end"
 # --- the list has the order's article, after whatever answer ------------------------------------------
 grep '^  2400' out | sed 's/  */ /g' >got
 cat >wanted <<'LIST'
- 24000 VD A-17 9783442756841 EN 10 7 3 J 0 0
- 24000 VD A-18 12345678 KN 3 1 2 - 0 0
- 24001 VD A-17 3442756847 IB 5 0 0 N 5 0
- 24000 VD A-17 123 45678 RK 6 1 5 - 0 0
+ 24000 VD A-17 9783442756841 EN 10 7 3 J 0 0 015 no day named
+ 24000 VD A-18 12345678 KN 3 1 2 - 0 0 no report yet
+ 24001 VD A-17 3442756847 IB 5 0 0 N 5 0 010 no day named
+ 24000 VD A-17 123 45678 RK 6 1 5 - 0 0 no report yet
 LIST
 expect_text got wanted "the list after articles that differ"
 

@@ -1,0 +1,151 @@
+# What the list says of each line's last report, in the run that booked it and in later ones.
+
+report_on() {   # reference, message and hold mark, expected date
+    printf 'M10124000     VD43210     VD70012345  %-10s9783442756841EN%s%8s0000*9999' "$1" "$2" "$3"
+}
+orders() { for reference; do put "$(order "$reference" 0010 '')"; done; }
+part_of() { delivery "$2" "$3" | sed "s/A-17      /$(printf '%-10s' "$1")/"; }     # reference, position, copies
+expect_rows() { # what it is; the rows without their article on standard input
+    grep '^  2400' out | sed 's/  */ /g;s/ 9783442756841 EN//' >got
+    cat >wanted
+    expect_text got wanted "$1"
+}
+unkept="message of an earlier run, not kept"
+
+# --- a day, zeros or blanks; each message is three digits, and 000 is one -------------------------------
+orders Z-1 R-3 R-1 R-2 R-6 R-5 R-4 R-9 R-8 R-7 R-10 >reports.bwa
+put "$(report_on R-1 000J 20240315)" "$(report_on R-2 000J 00000000)" "$(report_on R-3 000J '')" \
+    "$(report_on R-4 007N 00010203)" "$(report_on R-5 015N 00000000)" "$(report_on R-6 099N '')" \
+    "$(report_on R-7 100J 99991231)" "$(report_on R-8 999J 20240229)" "$(report_on R-9 010N 20241110)" \
+    "$(report_on R-10 999N 10000101)" >>reports.bwa
+run --new reports.book reports.bwa
+expect_code 0 "reports"
+sed -n '/^School/,/^$/p' out >got
+cat >list <<'LIST'
+School 43210 VD
+  supplier      reference   article           ordered   filled     open  mark   let go    extra  message  expected
+  24000 VD      R-1         9783442756841 EN       10        0       10     J        0        0  000      20240315
+  24000 VD      R-10        9783442756841 EN       10        0        0     N       10        0  999      10000101
+  24000 VD      R-2         9783442756841 EN       10        0       10     J        0        0  000      no day named
+  24000 VD      R-3         9783442756841 EN       10        0       10     J        0        0  000      no day named
+  24000 VD      R-4         9783442756841 EN       10        0        0     N       10        0  007      00010203
+  24000 VD      R-5         9783442756841 EN       10        0        0     N       10        0  015      no day named
+  24000 VD      R-6         9783442756841 EN       10        0        0     N       10        0  099      no day named
+  24000 VD      R-7         9783442756841 EN       10        0       10     J        0        0  100      99991231
+  24000 VD      R-8         9783442756841 EN       10        0       10     J        0        0  999      20240229
+  24000 VD      R-9         9783442756841 EN       10        0        0     N       10        0  010      20241110
+  24000 VD      Z-1         9783442756841 EN       10        0       10     -        0        0  no report yet
+  total: 11 lines                                 110        0       60             50        0
+
+LIST
+expect_text got list "the list of reports"
+sed -n 's/^reports.bwa:[0-9]* M101 0 done | .*, \(message .*\) | ordered .*/\1/p' out >got
+cat >wanted <<'ANSWERS'
+message 000, hold mark J, expected date 20240315
+message 000, hold mark J, expected date 00000000
+message 000, hold mark J, expected date blank
+message 007, hold mark N, expected date 00010203
+message 015, hold mark N, expected date 00000000
+message 099, hold mark N, expected date blank
+message 100, hold mark J, expected date 99991231
+message 999, hold mark J, expected date 20240229
+message 010, hold mark N, expected date 20241110
+message 999, hold mark N, expected date 10000101
+ANSWERS
+expect_text got wanted "the reports themselves"
+
+# --- the next run loads the book: it has the marks, and no longer what else the reports said -----------
+cp -p reports.book kept
+run reports.book
+expect_code 0 "a list in the next run"
+expect_silent "a list in the next run"
+sed -n '/^School/,/^$/p' out >got
+sed "/ [JN]  /s/^\(.\{95\}\).*/\1  $unkept/" list >wanted
+expect_text got wanted "a list in the next run"
+expect_same reports.book kept "a list in the next run"
+
+# --- a later run: a report tells again, nothing else does ----------------------------------------------
+put "$(part_of R-1 0001 0004)" "$(report_on R-2 015J 20240401)" "$(part_of R-4 0002 0010)" "$(part_of R-6 0003 0012)" \
+    "$(report_on Z-1 000N '')" "$(report_on R-9 000N 00000000)" "$(part_of R-9 0004 0001)" "$(order Z-2 0003 '')" >tuesday.bwa
+run reports.book tuesday.bwa
+expect_code 0 "reports of a later run"
+expect_rows "reports of a later run" <<LIST
+ 24000 VD R-1 10 4 6 J 0 0 $unkept
+ 24000 VD R-10 10 0 0 N 10 0 $unkept
+ 24000 VD R-2 10 0 10 J 0 0 015 20240401
+ 24000 VD R-3 10 0 10 J 0 0 $unkept
+ 24000 VD R-5 10 0 0 N 10 0 $unkept
+ 24000 VD R-6 10 10 0 N 0 2 $unkept
+ 24000 VD R-7 10 0 10 J 0 0 $unkept
+ 24000 VD R-8 10 0 10 J 0 0 $unkept
+ 24000 VD R-9 10 1 0 N 9 0 000 no day named
+ 24000 VD Z-1 10 0 0 N 10 0 000 no day named
+ 24000 VD Z-2 3 0 3 - 0 0 no report yet
+LIST
+cp wanted rows
+run reports.book
+grep '^  2400' out >got
+[ "$(grep -c "  $unkept\$" got)" -eq 10 ] && [ "$(grep -c '  no report yet$' got)" -eq 1 ] ||
+    fail "the run after a later run: not each row is of an earlier run"
+pass
+run --again reports.book tuesday.bwa
+expect_rows "reports booked again" <rows
+
+# --- the last report counts, whatever came before it; all files of a run count as one ------------------
+orders L-1 L-2 L-3 L-4 L-5 L-6 >first.bwa
+put "$(report_on L-1 015J 20240315)" "$(report_on L-2 015J '')" "$(report_on L-3 010N 20240315)" "$(report_on L-4 000J 20240315)" \
+    "$(report_on L-5 015J 20240315)" "$(report_on L-6 015J 20240315)" "$(report_on L-1 022J '')" "$(report_on L-2 022J 20240402)" >>first.bwa
+put "$(report_on L-3 034J 00000000)" "$(report_on L-4 000J 20250630)" "$(part_of L-5 0001 0004)" "$(report_on L-6 015N 20240315)" \
+    "$(part_of L-6 0002 0003)" "$(report_on L-3 034J 00000000)" >second.bwa
+run --new last.book first.bwa second.bwa
+expect_code 0 "the last report"
+expect_rows "the last report" <<'LIST'
+ 24000 VD L-1 10 0 10 J 0 0 022 no day named
+ 24000 VD L-2 10 0 10 J 0 0 022 20240402
+ 24000 VD L-3 10 0 10 J 0 0 034 no day named
+ 24000 VD L-4 10 0 10 J 0 0 000 20250630
+ 24000 VD L-5 10 4 6 J 0 0 015 20240315
+ 24000 VD L-6 10 3 0 N 7 0 015 20240315
+LIST
+
+# --- a delivery that fills the line hides it, one that passes it does not; a report after that tells ----
+put "$(part_of L-1 0003 0010)" "$(part_of L-2 0004 0011)" "$(part_of L-3 0005 0011)" "$(report_on L-3 001J 20240505)" \
+    "$(report_on L-1 001J 20240505)" "$(report_on L-4 999N '')" >full.bwa
+run last.book full.bwa
+expect_code 0 "reports on full lines"
+expect_rows "reports on full lines" <<LIST
+ 24000 VD L-2 10 10 0 J 0 1 $unkept
+ 24000 VD L-3 10 10 0 J 0 1 001 20240505
+ 24000 VD L-4 10 0 0 N 10 0 999 no day named
+ 24000 VD L-5 10 4 6 J 0 0 $unkept
+ 24000 VD L-6 10 3 0 N 7 0 $unkept
+LIST
+expect_out "complete: 1 line " "reports on full lines"
+
+# --- a refused report says nothing, and a report speaks for its own line alone ---------------------------
+{ orders S-1 S-2; put "$(order S-1 0010 '' | sed 's/43210/43211/')" "$(order S-1 0010 '' | sed 's/24000/24001/')"
+  put "$(report_on S-1 015J 20240315)" "$(report_on S-1 010N 20230229)" "$(report_on S-1 01xN '')" \
+    "$(report_on S-9 010N 20240401)" "$(report_on '' 010N 20240401)" "$(report_on S-1 010N 20240401 | sed 's/43210/43212/')" \
+    "$(report_on S-1 010X 20240401)" "$(report_on S-1 010N '20240401*99')"; } >single.bwa
+run --new single.book single.bwa
+expect_code 1 "refused reports"
+expect_out "records: 5 booked, 0 with nothing to book, 7 refused" "refused reports"
+expect_rows "refused reports" <<'LIST'
+ 24000 VD S-1 10 0 10 J 0 0 015 20240315
+ 24000 VD S-2 10 0 10 - 0 0 no report yet
+ 24001 VD S-1 10 0 10 - 0 0 no report yet
+ 24000 VD S-1 10 0 10 - 0 0 no report yet
+LIST
+
+# --- another message with the same mark leaves the saved book as it is, and is in the log alone ----------
+sed 's/015 20240315$/022 no day named/' wanted >rows
+cp -p single.book kept
+cp -p single.book.log kept_log
+put "$(report_on S-1 022J '')" >other.bwa
+run single.book other.bwa
+expect_code 0 "another message"
+expect_rows "another message" <rows
+expect_same single.book kept "another message"
+expect_none single.book.old "another message"
+[ "$(wc -l <single.book.log)" -eq $(($(wc -l <kept_log) + 1)) ] || fail "another message: not one line more in the log"
+pass
