@@ -251,15 +251,16 @@ extern "C" {
 #define WQ_LINE_ORDERED_WIDTH 2
 #define WQ_LINE_MARK_WIDTH 1
 #define WQ_LINE_MESSAGE_WIDTH 2
-#define WQ_LINE_EXPECTED_WIDTH 8
+#define WQ_LINE_EXPECTED_WIDTH WQ_DATE_WIDTH
 #define WQ_LINE_ARRIVED_WIDTH 4
-#define WQ_MARK_NONE 0           /* no report so far */
+#define WQ_MARK_NONE 0           /* no report yet */
 #define WQ_MARK_HELD 1           /* J: the supplier holds the order open */
 #define WQ_MARK_LET_GO 2         /* N: the supplier lets the rest go */
 
-/* A message: a number of 0 to 999 (000 is a message like any other), or one of these. */
+/* A message: a number of 0 to WQ_MOST_MESSAGE, of which 000 is one like any other. Where there
+ * is none, one of the other two stands in its place. */
 #define WQ_MOST_MESSAGE 999
-#define WQ_NO_REPORT 65535       /* no report so far */
+#define WQ_NO_REPORT 65535       /* no report yet */
 #define WQ_MESSAGE_UNKNOWN 65534 /* a report came, but the book was loaded since */
 
 /* An expected date: which of its three forms it has. */
@@ -331,8 +332,14 @@ extern "C" {
 typedef struct { uint64_t answer, place, fields; } wq_checked;
 typedef struct { uint64_t answer, place, length; } wq_written;
 typedef struct { uint64_t answer, place, parts; } wq_parts_read;
-typedef struct { uint64_t answer, place, ordered, filled, still_open, let_go, extra, agreed, message, expected, year, month, day; } wq_booked;
-typedef struct { uint64_t answer, place, ordered, filled, still_open, let_go, extra, message, expected, year, month, day; } wq_told;
+typedef struct {
+    uint64_t answer, place, ordered, filled, still_open, let_go, extra, agreed;
+    uint64_t message, expected, year, month, day;
+} wq_booked;
+typedef struct {
+    uint64_t answer, place, ordered, filled, still_open, let_go, extra;
+    uint64_t message, expected, year, month, day;
+} wq_told;
 typedef struct { uint64_t answer, place, length; } wq_saved;
 typedef struct { uint64_t answer, place; } wq_loaded;
 typedef struct { uint64_t answer, place, ceiling; } wq_account_told;
@@ -407,8 +414,10 @@ wq_written wq_write_parts(const uint8_t *fixed, size_t fixed_length, const size_
  *   agreed      1 where the record's article and its qualifier are both those that stand in
  *               the line, byte for byte, else 0; for an order 1
  *   message     the last report's message number, 0 to 999; WQ_NO_REPORT where none came,
- *               WQ_MESSAGE_UNKNOWN where the book was loaded since it came
- *   expected    which form its expected date has: WQ_EXPECTED_DAY, _ZEROS or _BLANKS
+ *               WQ_MESSAGE_UNKNOWN where the book was loaded since it came. The 0 of a
+ *               refusal is not message 000: look at `answer` first
+ *   expected    which form its expected date has: WQ_EXPECTED_DAY, _ZEROS or _BLANKS; _BLANKS
+ *               also where `message` is WQ_NO_REPORT or WQ_MESSAGE_UNKNOWN: look at it first
  *   year, month, day   the expected day; 0 where it is none
  * A delivery after an N still fills. A record booked twice changes nothing the second time
  * (14, 17), but a report sets what it says each time. An order for a reference that a line has is
