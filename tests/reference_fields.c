@@ -53,10 +53,7 @@ int ref_all_digits(const uint8_t *bytes, size_t length)
 
 static int all_blank(const uint8_t *bytes, size_t length)
 {
-    for (size_t i = 0; i < length; i++)
-        if (bytes[i] != ' ')
-            return 0;
-    return 1;
+    return all_equal(bytes, length, ' ');
 }
 
 static int all_capitals(const uint8_t *bytes, size_t length)

@@ -1,6 +1,7 @@
 /* What the files of the reference share: widths, limits, answers, and the judges of
-   fields, records, rosters and books. Documents 01 and 02 give every number that stands
-   here. */
+   fields, records, rosters and books. Documents 01 and 02 give every number that stands here,
+   or the settled layout does: the bytes of lent entries, and the numbers for a line without a
+   message and for the three forms of a date. */
 #ifndef REFERENCE_PARTS_H
 #define REFERENCE_PARTS_H
 
@@ -199,6 +200,15 @@ static inline void put_le64(uint8_t *bytes, uint64_t number)
     put_le32(bytes + 4, (size_t)(number >> 32));
 }
 
+static inline int all_equal(const uint8_t *bytes, size_t length, uint8_t value)
+{
+    for (size_t i = 0; i < length; i++)
+        if (bytes[i] != value)
+            return 0;
+    return 1;
+}
+
+/* Every call asks this of every used line, so it is one comparison. */
 static inline int is_blank_date(const uint8_t *date)
 {
     return memcmp(date, "        ", DATE_WIDTH) == 0;

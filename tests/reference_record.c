@@ -52,14 +52,6 @@ static const struct fixed_field report_fields[] = {
     {AS_EXPECTED_DAY, DATE_WIDTH}, {AS_ZEROS, QUANTITY_WIDTH}
 };
 
-static int all_equal(const uint8_t *bytes, size_t length, uint8_t value)
-{
-    for (size_t i = 0; i < length; i++)
-        if (bytes[i] != value)
-            return 0;
-    return 1;
-}
-
 static int all_capitals(const uint8_t *bytes, size_t length)
 {
     for (size_t i = 0; i < length; i++)
