@@ -171,7 +171,7 @@ blank_fields[] = {
     {ORDER_SHAPE, 4, "43210     VD", 9}, {ORDER_SHAPE, 46, "344275688X   IB", 12},
     {ORDER_SHAPE, 46, "1234567      KN", 7}, {ORDER_SHAPE, 46, "123     45678RK", 3},
     {ORDER_SHAPE, 36, "          ", 9}, {CLOSING_SHAPE, 36, "          ", 5},
-    {REPORT_SHAPE, 67, "        ", 0}
+    {REPORT_SHAPE, IN_REPORT_EXPECTED, BLANK_DATE, 0}
 };
 
 /* Only 32 is a blank: with the byte for one of its blanks each field is 5. */

@@ -12,8 +12,6 @@ enum {
 /* A report as it stands in a record. */
 struct report { uint8_t mark; size_t message; uint8_t date[IN_DAY]; };
 
-static const uint8_t blanks[] = "        ";
-
 static struct report make_report_of(struct dice *dice, size_t message, enum form form)
 {
     struct report report;
@@ -47,29 +45,16 @@ static uint64_t deliver_new(struct dice *dice, struct shelf *shelf, const uint8_
     return book_one(dice, shelf, GOODS_SHAPE, key, 1, slip);
 }
 
-/* What a message with this date has to be told as, stated by its form. */
-static struct said said_of(size_t message, enum form form, const uint8_t *date)
-{
-    struct said said = {message, (uint64_t)IN_AS_DAY + form, 0, 0, 0};
-    if (form != A_DAY)
-        return said;
-    said.year = get_digits(date, 4);
-    said.month = get_digits(date + IN_MONTH, 2);
-    said.day = get_digits(date + IN_DAY_OF_MONTH, 2);
-    return said;
-}
-
 /* The call that was made answers 0 and tells this; the call by key tells the same. */
 static void expect_said(enum class class, uint64_t answer, struct shelf *shelf,
                         const uint8_t *key, const struct said *said)
 {
-    uint64_t figures[FIGURES];
-    memcpy(figures, tally.figures, sizeof figures);
+    const struct figures figures = tally.figures;
     expect(class, 1, answer, 0);
     insist(is_same_said(&tally.said, said), "a booking tells the message and date that it has to");
     expect(class, 1, ask_line(key, shelf), 0);
     insist(is_same_said(&tally.said, said), "a line tells the message and date that it has to");
-    insist(memcmp(tally.figures, figures, sizeof figures) == 0,
+    insist(memcmp(&tally.figures, &figures, sizeof figures) == 0,
            "a line tells the figures that its booking told");
     came_up(LINE_TELLS_AS_BOOKED, 1);
 }
@@ -169,7 +154,7 @@ static void judge_book(struct dice *dice, const struct shelf *shelf, int sound, 
     copy_shelf(&copy, shelf);
     expect(class, 1, ask_line(line, &copy), wanted);
     expect(class, 1, both_save(&copy, out, sizeof out), wanted);
-    expect(class, 1, book_listed(dice, blanks, IN_DAY, &copy), sound ? 2 : 20);
+    expect(class, 1, book_listed(dice, (const uint8_t *)BLANK_DATE, IN_DAY, &copy), sound ? 2 : 20);
     expect(class, 1, deliver_new(dice, &copy, line), wanted);
     copy_shelf(&copy, shelf);
     expect(class, 1, book_one(dice, &copy, ORDER_SHAPE, key, 7, NULL), wanted);
@@ -216,7 +201,7 @@ static void judge_pairs(struct dice *dice)
             struct report state = {(uint8_t)mark, numbers[i].message, {0}};
             int sound = mark == IN_NO_MARK ? numbers[i].with_none
                       : mark <= IN_LET_GO && numbers[i].with_report;
-            memcpy(state.date, blanks, IN_DAY);
+            memcpy(state.date, BLANK_DATE, IN_DAY);
             judge_state(dice, &state, sound, (enum class)(numbers[i].class + mark));
         }
 }
@@ -228,7 +213,7 @@ enum kind { DAY_KIND, ZEROS_KIND, BLANKS_KIND, UNREAL_KIND, PARTLY_BLANK_KIND, B
 static const struct { const char *bytes; enum kind kind; } dates[] = {
     {"20240229", DAY_KIND}, {"00010101", DAY_KIND}, {"99991231", DAY_KIND},
     {"20000229", DAY_KIND}, {"20240430", DAY_KIND}, {"20231130", DAY_KIND},
-    {"00000000", ZEROS_KIND}, {"        ", BLANKS_KIND},
+    {"00000000", ZEROS_KIND}, {BLANK_DATE, BLANKS_KIND},
     {"20230229", UNREAL_KIND}, {"19000229", UNREAL_KIND}, {"00000101", UNREAL_KIND},
     {"00000229", UNREAL_KIND}, {"20241301", UNREAL_KIND}, {"20240001", UNREAL_KIND},
     {"20240431", UNREAL_KIND}, {"20240132", UNREAL_KIND}, {"20240100", UNREAL_KIND},
@@ -418,7 +403,7 @@ static void ask_every_message(struct dice *dice)
     make_shelf(dice, &shelf, 1, 1);
     stock_unique(dice, &shelf, 1, 0);
     for (size_t message = 0; message <= 2 * IN_MOST_MESSAGE; message++) {
-        put_state(shelf.lines, IN_LET_GO, message, blanks);
+        put_state(shelf.lines, IN_LET_GO, message, BLANK_DATE);
         ask_state(&shelf, EVERY_MESSAGE);
     }
 }

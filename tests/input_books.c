@@ -121,17 +121,25 @@ void add_open(struct dice *dice, struct shelf *shelf, const uint8_t *account, si
     }
 }
 
-/* The copies open for a school, counted here a second time on purpose. */
+/* What a line's copies come to, reckoned here a second time on purpose. */
+struct figures figures_on(const uint8_t *line)
+{
+    size_t ordered = get_little(line + IN_ORDERED, 2);
+    size_t arrived = get_little(line + IN_ARRIVED, IN_LINE - IN_ARRIVED);
+    size_t missing = arrived < ordered ? ordered - arrived : 0;
+    struct figures figures = {ordered, ordered - missing, 0, 0, arrived + missing - ordered};
+    *(line[IN_MARK] == IN_LET_GO ? &figures.let_go : &figures.still_open) = missing;
+    return figures;
+}
+
+/* The copies open for a school. */
 size_t open_on(const struct shelf *shelf, const uint8_t *account)
 {
     size_t open = 0;
     for (size_t i = 0; i < shelf->used[0]; i++) {
         const uint8_t *line = shelf->lines + i * IN_LINE;
-        size_t ordered = get_little(line + IN_ORDERED, 2);
-        size_t arrived = get_little(line + IN_ARRIVED, 4);
-        int is_open = line[IN_MARK] != IN_LET_GO && arrived < ordered;
-        if (is_open && memcmp(line, account, IN_PARTY) == 0)
-            open += ordered - arrived;
+        if (memcmp(line, account, IN_PARTY) == 0)
+            open += (size_t)figures_on(line).still_open;
     }
     return open;
 }
@@ -151,14 +159,19 @@ static size_t reference_in(const uint8_t *record)
          : record[0] == 'L' ? IN_DELIVERY_REFERENCE : IN_REPORT_REFERENCE;
 }
 
-/* The first line with the key of a record that was read, or NULL. */
-const uint8_t *line_named(const uint8_t *record, const struct shelf *shelf)
+static void take_key(const uint8_t *record, uint8_t *key)
 {
     int order = record[0] == 'B';
-    uint8_t key[IN_KEY];
     memcpy(key, record + (order ? IN_SENDER : IN_RECIPIENT), IN_PARTY);
     memcpy(key + IN_PARTY, record + (order ? IN_RECIPIENT : IN_SENDER), IN_PARTY);
     memcpy(key + IN_REFERENCE, record + reference_in(record), IN_NAME);
+}
+
+/* The first line with the key of a record that was read, or NULL. */
+const uint8_t *line_named(const uint8_t *record, const struct shelf *shelf)
+{
+    uint8_t key[IN_KEY];
+    take_key(record, key);
     return line_with(shelf, key);
 }
 
@@ -166,6 +179,42 @@ const uint8_t *line_named(const uint8_t *record, const struct shelf *shelf)
 int names_title(const uint8_t *record, const uint8_t *line)
 {
     return memcmp(line + IN_KEY, record + reference_in(record) + IN_NAME, IN_TITLE) == 0;
+}
+
+/* The line of an order: no report has come for it, and nothing has arrived. */
+static void begin_line(const uint8_t *order, uint8_t *line)
+{
+    take_key(order, line);
+    memcpy(line + IN_KEY, order + IN_ORDER_REFERENCE + IN_NAME, IN_TITLE);
+    put_little(line + IN_ORDERED, 2, get_digits(order + IN_ORDER_COPIES, IN_QUANTITY));
+    put_state(line, IN_NO_MARK, IN_NO_REPORT, BLANK_DATE);
+    put_little(line + IN_ARRIVED, IN_LINE - IN_ARRIVED, 0);
+}
+
+static void add_copies(const uint8_t *delivery, uint8_t *line)
+{
+    size_t copies = get_digits(delivery + IN_DELIVERY_COPIES, IN_QUANTITY);
+    size_t arrived = get_little(line + IN_ARRIVED, IN_LINE - IN_ARRIVED);
+    put_little(line + IN_ARRIVED, IN_LINE - IN_ARRIVED, arrived + copies);
+}
+
+static void take_report(const uint8_t *report, uint8_t *line)
+{
+    put_state(line, report[IN_REPORT_HOLD] == 'J' ? IN_HELD : IN_LET_GO,
+              get_digits(report + IN_REPORT_MESSAGE, IN_MESSAGE_DIGITS),
+              report + IN_REPORT_EXPECTED);
+}
+
+/* A line as the booking of a record has to leave it, stated here a second time on purpose: an
+   order begins it, a delivery adds its copies, a report sets what it says, and no more. */
+void line_after(const uint8_t *record, const uint8_t *before, uint8_t *line)
+{
+    memcpy(line, before, IN_LINE);
+    switch (record[0]) {
+    case 'B': begin_line(record, line); break;
+    case 'L': add_copies(record, line); break;
+    default: take_report(record, line); break;
+    }
 }
 
 /* A valid save; copies 0 means any number on each slip. Slips go to the first lines. */

@@ -20,7 +20,7 @@ size_t make_message(struct dice *dice)
                            : below(dice, IN_MOST_MESSAGE + 1);
 }
 
-void put_state(uint8_t *line, uint8_t mark, size_t message, const uint8_t *date)
+void put_state(uint8_t *line, uint8_t mark, size_t message, const void *date)
 {
     line[IN_MARK] = mark;
     put_little(line + IN_MESSAGE, IN_EXPECTED - IN_MESSAGE, message);
@@ -71,7 +71,7 @@ int is_sound_state(const uint8_t *line)
 {
     const uint8_t *date = line + IN_EXPECTED;
     size_t message = get_little(line + IN_MESSAGE, 2);
-    int blank = memcmp(date, "        ", IN_DAY) == 0;
+    int blank = memcmp(date, BLANK_DATE, IN_DAY) == 0;
     int reported = line[IN_MARK] == IN_HELD || line[IN_MARK] == IN_LET_GO;
     if (message == IN_NO_REPORT)
         return line[IN_MARK] == IN_NO_MARK && blank;
@@ -81,22 +81,26 @@ int is_sound_state(const uint8_t *line)
         && (blank || memcmp(date, "00000000", IN_DAY) == 0 || is_day(date));
 }
 
+/* What a message with this date has to be told as, stated by its form. */
+struct said said_of(size_t message, enum form form, const uint8_t *date)
+{
+    struct said said = {message, (uint64_t)IN_AS_DAY + form, 0, 0, 0};
+    if (form != A_DAY)
+        return said;
+    said.year = get_digits(date, 4);
+    said.month = get_digits(date + IN_MONTH, 2);
+    said.day = get_digits(date + IN_DAY_OF_MONTH, 2);
+    return said;
+}
+
 /* The form of a sound date is told by few of its bytes: no day begins with a blank, and none
    has the month 00. */
 struct said said_on(const uint8_t *line)
 {
     const uint8_t *date = line + IN_EXPECTED;
-    struct said said = {get_little(line + IN_MESSAGE, 2), IN_AS_DAY, 0, 0, 0};
-    if (date[0] == ' ') {
-        said.expected = IN_AS_BLANKS;
-    } else if (memcmp(date + IN_MONTH, "00", 2) == 0) {
-        said.expected = IN_AS_ZEROS;
-    } else {
-        said.year = get_digits(date, 4);
-        said.month = get_digits(date + IN_MONTH, 2);
-        said.day = get_digits(date + IN_DAY_OF_MONTH, 2);
-    }
-    return said;
+    enum form form = date[0] == ' ' ? BLANKS
+                   : memcmp(date + IN_MONTH, "00", 2) == 0 ? ZEROS : A_DAY;
+    return said_of(get_little(line + IN_MESSAGE, 2), form, date);
 }
 
 int is_same_said(const struct said *one, const struct said *other)
@@ -105,26 +109,10 @@ int is_same_said(const struct said *one, const struct said *other)
         && one->year == other->year && one->month == other->month && one->day == other->day;
 }
 
-/* What a booking leaves of a line's last report, mark, message and date: an order has none, a
-   delivery changes nothing, a report sets all of it. */
-void state_after(const uint8_t *record, const uint8_t *before, uint8_t *state)
-{
-    uint8_t line[IN_LINE];
-    if (record[0] == 'B')
-        put_state(line, IN_NO_MARK, IN_NO_REPORT, (const uint8_t *)"        ");
-    else if (record[0] == 'L')
-        memcpy(line, before, IN_LINE);
-    else
-        put_state(line, record[IN_REPORT_HOLD] == 'J' ? IN_HELD : IN_LET_GO,
-                  get_digits(record + IN_REPORT_MESSAGE, IN_MESSAGE_DIGITS),
-                  record + IN_REPORT_EXPECTED);
-    memcpy(state, line + IN_MARK, IN_STATE);
-}
-
 /* What a load makes of the message and date behind a mark, whatever stood there. */
 int is_loaded_state(const uint8_t *line)
 {
     size_t wanted = line[IN_MARK] == IN_NO_MARK ? IN_NO_REPORT : IN_UNKNOWN;
     return get_little(line + IN_MESSAGE, 2) == wanted
-        && memcmp(line + IN_EXPECTED, "        ", IN_DAY) == 0;
+        && memcmp(line + IN_EXPECTED, BLANK_DATE, IN_DAY) == 0;
 }

@@ -6,7 +6,7 @@
 
 enum {
     /* widths of the documents, stated here a second time on purpose */
-    IN_ADDRESS = 10, IN_QUALIFIER = 2, IN_PARTY = 12, IN_NAME = 10,
+    IN_ADDRESS = 10, IN_QUALIFIER = 2, IN_PARTY = 12, IN_NAME = 10, IN_QUANTITY = 4,
     IN_KEY = 34, IN_LINE = 66, IN_SLIP_KEY = 46, IN_SLIP = 50, IN_DAY = 8,
     /* a title is an article with its qualifier; it stands behind the key of a line, and
        behind the reference of a record */
@@ -25,6 +25,7 @@ enum {
     IN_KIND_BYTE = 1,
     IN_SAVED_LINES_COUNT = 4, IN_SAVED_SLIPS_COUNT = 2,
     IN_SENDER = 4, IN_RECIPIENT = 16, IN_REFERENCE = 24, IN_ORDER_COPIES = 61,
+    IN_DELIVERY_COPIES = 75,
     IN_ORDER_REFERENCE = 36, IN_DELIVERY_REFERENCE = 50, IN_REPORT_REFERENCE = 38,
     IN_REPORT_MESSAGE = 63, IN_REPORT_HOLD = 66, IN_REPORT_EXPECTED = 67,
     IN_MOST_FIELDS = 96, IN_FULL_TABLE = 3 * IN_MOST_FIELDS, IN_LONGEST = 1024,
@@ -48,6 +49,9 @@ enum {
     FAR_ROSTER = 65536, ROSTER_ROOM = FAR_ROSTER + (IN_MOST_SCHOOLS + 3) * IN_SCHOOL,
     SAVE_ROOM = 200000
 };
+
+/* An expected date of eight blanks. */
+#define BLANK_DATE "        "
 
 /* A small generator of random numbers with a course that its seed fixes. */
 struct dice { uint64_t state; };
@@ -170,16 +174,17 @@ enum form { A_DAY, ZEROS, BLANKS, FORMS };
 struct said { uint64_t message, expected, year, month, day; };
 void make_expected(struct dice *dice, enum form form, uint8_t *date);
 size_t make_message(struct dice *dice);
-void put_state(uint8_t *line, uint8_t mark, size_t message, const uint8_t *date);
+void put_state(uint8_t *line, uint8_t mark, size_t message, const void *date);
 void make_state(struct dice *dice, uint8_t *line, uint8_t mark);
 void make_any_state(struct dice *dice, uint8_t *line);
 int is_sound_state(const uint8_t *line);
+struct said said_of(size_t message, enum form form, const uint8_t *date);
 struct said said_on(const uint8_t *line);
 int is_same_said(const struct said *one, const struct said *other);
-void state_after(const uint8_t *record, const uint8_t *before, uint8_t *state);
 int is_loaded_state(const uint8_t *line);
 
-/* Books and saves. */
+/* Books and saves; the copies of a line, and a line as a booking has to leave it. */
+struct figures { uint64_t ordered, filled, still_open, let_go, extra; };
 void make_shelf(struct dice *dice, struct shelf *shelf, size_t line_room, size_t slip_room);
 void stock_shelf(struct dice *dice, struct shelf *shelf, size_t lines, size_t slips,
                  size_t variety);
@@ -187,10 +192,12 @@ void stock_unique(struct dice *dice, struct shelf *shelf, size_t lines, size_t s
 void add_line(struct dice *dice, struct shelf *shelf, const uint8_t *account, size_t ordered,
               size_t arrived, uint8_t mark);
 void add_open(struct dice *dice, struct shelf *shelf, const uint8_t *account, size_t open);
+struct figures figures_on(const uint8_t *line);
 size_t open_on(const struct shelf *shelf, const uint8_t *account);
 const uint8_t *line_with(const struct shelf *shelf, const uint8_t *key);
 const uint8_t *line_named(const uint8_t *record, const struct shelf *shelf);
 int names_title(const uint8_t *record, const uint8_t *line);
+void line_after(const uint8_t *record, const uint8_t *before, uint8_t *line);
 void unique_line_key(uint8_t *key, size_t number);
 void unique_slip_key(uint8_t *key, size_t number);
 size_t make_save(struct dice *dice, uint8_t *saved, size_t lines, size_t slips,

@@ -17,9 +17,12 @@
 #endif
 
 enum {
-    MOST_PIECES = 8, SIDES = 2, GUARD = 72, SLACK = 16,
-    FIGURES_FROM = 2, SAID_FROM = FIGURES_FROM + FIGURES, AGREED = 12, MOST_VALUES = 13,
-    DESK_WORDS = 1 << 19, MOST_SHOWN = 4096
+    MOST_PIECES = 8, SIDES = 2, GUARD = 72, SLACK = 16, DESK_WORDS = 1 << 19, MOST_SHOWN = 4096,
+    /* the values of a call: answer and place, then what it gives; of a line its figures, what
+       its last report said, and whether the articles agreed */
+    FIGURES_FROM = 2,
+    SAID_FROM = FIGURES_FROM + sizeof (struct figures) / sizeof (uint64_t),
+    AGREED = SAID_FROM + sizeof (struct said) / sizeof (uint64_t), MOST_VALUES
 };
 
 struct tally tally;
@@ -322,7 +325,7 @@ static int is_unchanged(const struct lending *lending, size_t side)
 /* Whether a refusal gives nothing besides its answer and place. */
 static int gives_nothing(const struct outcome *outcome)
 {
-    for (size_t i = 2; i < MOST_VALUES; i++)
+    for (size_t i = FIGURES_FROM; i < MOST_VALUES; i++)
         if (outcome->values[i] != 0)
             return 0;
     return 1;
@@ -340,12 +343,11 @@ static int is_same(const struct lending *lending)
 /* Keeps what the call gave for those who made it. */
 static void keep_outcome(const struct outcome *outcome)
 {
-    const uint64_t *said = outcome->values + SAID_FROM;
     tally.place = outcome->values[1];
     tally.value = outcome->values[FIGURES_FROM];
     tally.agreed = outcome->values[AGREED];
-    memcpy(tally.figures, outcome->values + FIGURES_FROM, sizeof tally.figures);
-    tally.said = (struct said){said[0], said[1], said[2], said[3], said[4]};
+    memcpy(&tally.figures, outcome->values + FIGURES_FROM, sizeof tally.figures);
+    memcpy(&tally.said, outcome->values + SAID_FROM, sizeof tally.said);
 }
 
 /* Runs the call on both sides and compares all of it; gives the answer. */
@@ -465,37 +467,47 @@ uint64_t both_write_parts(const struct bundle *bundle, uint8_t *out, size_t out_
     return answer;
 }
 
-/* Whether the lines of the book are as they were: the one that was booked on by its key, title
-   and order, the others whole. */
-static int are_lines_kept(const struct shelf *before, const struct shelf *after,
-                          const uint8_t *booked_on)
+/* What a call told of this line follows from it. */
+static void insist_told_of(const uint8_t *line)
 {
-    for (size_t i = 0; i < before->used[0]; i++) {
-        const uint8_t *line = after->lines + i * IN_LINE;
-        size_t kept = line == booked_on ? IN_MARK : IN_LINE;
-        if (memcmp(line, before->lines + i * IN_LINE, kept) != 0)
-            return 0;
-    }
-    return 1;
+    const struct said said = said_on(line);
+    const struct figures figures = figures_on(line);
+    insist(is_same_said(&said, &tally.said), "what the last report said is told as it stands");
+    insist(memcmp(&figures, &tally.figures, sizeof figures) == 0,
+           "the figures that are told follow from ordered, arrived and mark");
 }
 
-/* What holds after every booking: the record's line is there and tells what it holds, its last
-   report is the one that it has to be, and the rest of the lines is as it was. */
+/* Whether the room for lines is as it was, but for the line at this place. */
+static int are_others_kept(const struct shelf *before, const struct shelf *after, size_t place)
+{
+    size_t behind = place + IN_LINE;
+    return memcmp(after->lines, before->lines, place) == 0
+        && memcmp(after->lines + behind, before->lines + behind,
+                  after->lines_length - behind) == 0;
+}
+
+/* What holds after every booking: an order adds a line behind the used ones, any other record
+   has one; it is as it has to be and is told so, and all else in the lines is as it was. */
 static void insist_booked(const uint8_t *record, const struct shelf *before,
                           const struct shelf *after)
 {
-    uint8_t state[IN_STATE];
-    const uint8_t *line = line_named(record, after);
-    insist(line != NULL, "a record that was booked has a line");
-    const struct said said = said_on(line);
-    state_after(record, before->lines + (line - after->lines), state);
-    insist(are_lines_kept(before, after, line), "a booking changes its own line alone");
-    insist(memcmp(line + IN_MARK, state, IN_STATE) == 0,
-           "a report sets all that a line has of it, and no other record does");
-    insist(is_same_said(&said, &tally.said), "a booking tells what its line's last report said");
+    uint8_t wanted[IN_LINE];
+    int order = record[0] == 'B';
+    const uint8_t *named = line_named(record, before);
+    insist((named == NULL) == order, "an order has no line yet, any other record has one");
+    size_t place = order ? before->used[0] * IN_LINE : (size_t)(named - before->lines);
+    const uint8_t *line = after->lines + place;
+    line_after(record, before->lines + place, wanted);
+    insist(after->used[0] == before->used[0] + (order ? 1 : 0), "an order alone adds a line");
+    insist(memcmp(line, wanted, IN_ARRIVED) == 0,
+           "an order sets what it orders, a report what it says, and no other record does");
+    insist(memcmp(line + IN_ARRIVED, wanted + IN_ARRIVED, IN_LINE - IN_ARRIVED) == 0,
+           "nothing has arrived for an order, a delivery adds its copies, a report adds none");
+    insist(are_others_kept(before, after, place), "a booking changes its own line alone");
+    insist_told_of(line);
     insist(tally.agreed == (uint64_t)names_title(record, line),
            "agreed tells whether the record names the line's article");
-    insist(record[0] != 'B' || tally.agreed == 1, "an order agrees with its own line");
+    insist(!order || tally.agreed == 1, "an order agrees with its own line");
 }
 
 uint64_t both_book(const uint8_t *record, size_t length, const struct roster *roster,
@@ -518,7 +530,7 @@ uint64_t both_book(const uint8_t *record, size_t length, const struct roster *ro
     return answer;
 }
 
-/* A line that was found is the first with the key, and its last report is told. */
+/* A line that was found is the first with the key, and is told as it stands. */
 static void insist_told(const uint8_t *const parts[KEY_PARTS], const size_t lengths[KEY_PARTS],
                         const struct shelf *shelf)
 {
@@ -530,8 +542,7 @@ static void insist_told(const uint8_t *const parts[KEY_PARTS], const size_t leng
     }
     const uint8_t *line = length == IN_KEY ? line_with(shelf, key) : NULL;
     insist(line != NULL, "a line that is told has the key");
-    const struct said said = said_on(line);
-    insist(is_same_said(&said, &tally.said), "the call by key tells what the last report said");
+    insist_told_of(line);
 }
 
 uint64_t both_line(const uint8_t *const parts[KEY_PARTS], const size_t lengths[KEY_PARTS],

@@ -7,7 +7,7 @@
 
 enum call { CHECK, WRITE, PARTS, WRITE_PARTS, BOOK, LINE, SAVE, LOAD, ACCOUNT, CALL_COUNT };
 
-enum { ANSWER_COUNT = 28, KEY_PARTS = 5, FIGURES = 5, MOST_TABLE = 66000 };
+enum { ANSWER_COUNT = 28, KEY_PARTS = 5, MOST_TABLE = 66000 };
 
 /* The calls so far, how often each answer of each call was seen, where we are (the
    round's seed and the number of the call in it), and what the last call gave: the place,
@@ -15,7 +15,7 @@ enum { ANSWER_COUNT = 28, KEY_PARTS = 5, FIGURES = 5, MOST_TABLE = 66000 };
    told, its figures and what its last report said. */
 struct tally {
     uint64_t calls, seen[CALL_COUNT][ANSWER_COUNT], seed, call, place, value, agreed;
-    uint64_t figures[FIGURES];
+    struct figures figures;
     struct said said;
 };
 

@@ -19,7 +19,7 @@
 #define Y(slip, position, copies) Y_FIXED(slip, position, copies) END
 #define Z_DATED(title, message, date) \
     "M10124000     VD43210     VD70012345  A-17      " title message date "0000*9999"
-#define Z_OF(title, message) Z_DATED(title, message, "        ")
+#define Z_OF(title, message) Z_DATED(title, message, BLANK_DATE)
 #define Z(message) Z_OF(ISBN, message)
 #define ISBN "9783442756841EN"
 #define OWN "1234567      UM"
