@@ -8,6 +8,7 @@ static size_t counts[CLASS_COUNT];
 
 static const char *const words[CLASS_COUNT] = {
     [UNSOUND_LINE_FROM_3] = "an unsound line at index 3 or more",
+    [MARK_APART_FROM_3] = "a mark that does not go with its message at index 3 or more",
     [UNSOUND_SLIP_FROM_7] = "an unsound slip at index 7 or more",
     [SLIPS_WITHOUT_LINES] = "slips in a book without lines",
     [LINE_OF_SLIP_FAR] = "a slip of a line far past the used ones",

@@ -176,7 +176,21 @@ static void refuse_book(struct dice *dice, struct shelf *shelf, enum class class
     expect(class, 1, both_save(shelf, out, below(dice, IN_SAVED_END)), 20);
 }
 
-/* Each number of a far line past its end; a line past the used ones is not looked at. */
+/* Marks with messages that they do not go with, on a far line. */
+static void part_mark_and_message(struct dice *dice, struct shelf *shelf, uint8_t *line)
+{
+    static const struct { uint8_t mark; size_t message; } pairs[] = {
+        {IN_NO_MARK, 0}, {IN_NO_MARK, IN_UNKNOWN}, {IN_HELD, IN_NO_REPORT},
+        {IN_LET_GO, IN_NO_REPORT}
+    };
+    for (size_t i = 0; i < sizeof pairs / sizeof pairs[0]; i++) {
+        put_state(line, pairs[i].mark, pairs[i].message, BLANK_DATE);
+        refuse_book(dice, shelf, MARK_APART_FROM_3);
+    }
+}
+
+/* Each number of a far line past its end, and its mark apart from its message; a line past the
+   used ones is not looked at. */
 static void break_far_lines(struct dice *dice)
 {
     static const struct { size_t place, width, number; } faults[] = {
@@ -194,10 +208,13 @@ static void break_far_lines(struct dice *dice)
         uint8_t *line = shelf.lines + indexes[i] * IN_LINE, right[IN_LINE];
         memcpy(right, line, IN_LINE);
         put_little(line + faults[which].place, faults[which].width, faults[which].number);
-        if (indexes[i] < used)
+        if (indexes[i] < used) {
             refuse_book(dice, &shelf, UNSOUND_LINE_FROM_3);
-        else
+            memcpy(line, right, IN_LINE);
+            part_mark_and_message(dice, &shelf, line);
+        } else {
             insist(ask_line(shelf.lines, &shelf) == 0, "a line that is not used is not judged");
+        }
         memcpy(line, right, IN_LINE);
     }
 }
