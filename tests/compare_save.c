@@ -198,6 +198,51 @@ static void load_mixed(struct dice *dice)
     }
 }
 
+/* The book as a save in which lines of this run are of kind 3, with message and date behind the
+   mark, and the others of kind 1. */
+static size_t save_with_kind_3(const struct shelf *shelf, size_t from, size_t to, uint8_t *saved)
+{
+    uint8_t *at = saved;
+    for (size_t i = 0; i < shelf->used[0]; i++) {
+        int of_kind_3 = i >= from && i < to;
+        size_t body = of_kind_3 ? IN_ARRIVED : IN_BODY;
+        *at++ = of_kind_3 ? 3 : 1;
+        memcpy(at, shelf->lines + i * IN_LINE, body);
+        at += body;
+    }
+    for (size_t i = 0; i < shelf->used[1]; i++, at += IN_SLIP) {
+        *at++ = 2;
+        memcpy(at, shelf->slips + i * IN_SLIP, IN_SLIP);
+    }
+    *at++ = 0;
+    put_little(at, 2, shelf->used[0]);
+    put_little(at + 2, 2, shelf->used[1]);
+    return (size_t)(at + 4 - saved);
+}
+
+/* Document 02's new form of a save, kind 3 in place of kind 1, is no save until it lands: neither
+   whole nor for some of the lines. In document 01's form the same book is loaded. */
+static void load_kind_3(struct dice *dice)
+{
+    enum { LINES = 4, SLIPS = 3 };
+    static struct shelf shelf;
+    uint8_t saved[1000];
+    for (size_t lines = 1; lines <= LINES; lines++)
+        for (size_t slips = 0; slips <= SLIPS; slips += SLIPS) {
+            size_t from = below(dice, lines), some = from + between(dice, 1, lines - from);
+            make_shelf(dice, &shelf, LINES, SLIPS);
+            stock_unique(dice, &shelf, lines, slips);
+            const struct { size_t from, to; } runs[] = {{0, lines}, {0, 1}, {lines - 1, lines},
+                                                        {from, some}, {0, 0}};
+            for (size_t i = 0; i < sizeof runs / sizeof runs[0]; i++) {
+                size_t length = save_with_kind_3(&shelf, runs[i].from, runs[i].to, saved);
+                size_t of_kind_3 = runs[i].to - runs[i].from;
+                expect(of_kind_3 == lines ? SAVED_AS_KIND_3 : SAVED_AS_BOTH_KINDS, of_kind_3 > 0,
+                       both_load(saved, length, &shelf), of_kind_3 > 0 ? 22 : 0);
+            }
+        }
+}
+
 void compare_saves(struct dice *dice)
 {
     for (size_t i = 0; i < 5; i++) {
@@ -208,4 +253,5 @@ void compare_saves(struct dice *dice)
     }
     load_into_rooms(dice);
     load_numbers(dice);
+    load_kind_3(dice);
 }
