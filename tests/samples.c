@@ -143,56 +143,56 @@ static const struct bundle_sample bundle_samples[] = {
 #define DATED(message, year, month, day) {message, 1, year, month, day}
 #define NOTHING {0, 0, 0, 0, 0}
 
-/* The desk program's sample: record, then answer, the five figures, whether the articles
+/* The desk program's sample: record, then answer, place, the five figures, whether the articles
    agreed, which all of its records do, and what the last report said. It leaves one line and
    three slips. */
 struct booking_sample {
     const char *record;
-    uint64_t answer, figures[5], agreed;
+    uint64_t answer, place, figures[5], agreed;
     struct said said;
 };
 static const struct booking_sample desk_sample[] = {
-    {X END, 0, {10, 0, 10, 0, 0}, 1, NO_REPORT},
-    {Y(SLIP, "0001", "0004"), 0, {10, 4, 6, 0, 0}, 1, NO_REPORT},
-    {Y(SLIP, "0001", "0004"), 17, {0, 0, 0, 0, 0}, 0, NOTHING},
-    {Z("010N"), 0, {10, 4, 0, 6, 0}, 1, BLANK(10)},
-    {Y(SLIP, "0002", "0003"), 0, {10, 7, 0, 3, 0}, 1, BLANK(10)},
-    {Z("015J"), 0, {10, 7, 3, 0, 0}, 1, BLANK(15)},
-    {Y(SLIP, "0003", "0005"), 0, {10, 10, 0, 0, 2}, 1, BLANK(15)},
-    {Y(SLIP, "0001", "0005"), 18, {0, 0, 0, 0, 0}, 0, NOTHING},
-    {Y("          ", "0001", "0004"), 13, {0, 0, 0, 0, 0}, 0, NOTHING}
+    {X END, 0, 0, {10, 0, 10, 0, 0}, 1, NO_REPORT},
+    {Y(SLIP, "0001", "0004"), 0, 0, {10, 4, 6, 0, 0}, 1, NO_REPORT},
+    {Y(SLIP, "0001", "0004"), 17, 0, {0, 0, 0, 0, 0}, 0, NOTHING},
+    {Z("010N"), 0, 0, {10, 4, 0, 6, 0}, 1, BLANK(10)},
+    {Y(SLIP, "0002", "0003"), 0, 0, {10, 7, 0, 3, 0}, 1, BLANK(10)},
+    {Z("015J"), 0, 0, {10, 7, 3, 0, 0}, 1, BLANK(15)},
+    {Y(SLIP, "0003", "0005"), 0, 0, {10, 10, 0, 0, 2}, 1, BLANK(15)},
+    {Y(SLIP, "0001", "0005"), 18, 0, {0, 0, 0, 0, 0}, 0, NOTHING},
+    {Y("          ", "0001", "0004"), 13, 0, {0, 0, 0, 0, 0}, 0, NOTHING}
 };
 
 /* The same order with reports that expect it in each of the three forms; message 000 is a
    message. It leaves the same counts and figures. */
 static const struct booking_sample late_sample[] = {
-    {X END, 0, {10, 0, 10, 0, 0}, 1, NO_REPORT},
-    {Z_DATED(ISBN, "000J", "20240229"), 0, {10, 0, 10, 0, 0}, 1, DATED(0, 2024, 2, 29)},
-    {Y(SLIP, "0001", "0004"), 0, {10, 4, 6, 0, 0}, 1, DATED(0, 2024, 2, 29)},
-    {Z_DATED(ISBN, "000J", "20230229"), 5, {0, 0, 0, 0, 0}, 0, NOTHING},
-    {Z_DATED(ISBN, "999N", "00000000"), 0, {10, 4, 0, 6, 0}, 1, ZEROED(999)},
-    {Z_DATED(OWN, "000N", "00010101"), 0, {10, 4, 0, 6, 0}, 0, DATED(0, 1, 1, 1)},
-    {Y(SLIP, "0002", "0003"), 0, {10, 7, 0, 3, 0}, 1, DATED(0, 1, 1, 1)},
-    {X END, 14, {0, 0, 0, 0, 0}, 0, NOTHING},
-    {Z_DATED(ISBN, "256J", "99991231"), 0, {10, 7, 3, 0, 0}, 1, DATED(256, 9999, 12, 31)},
-    {Z("015J"), 0, {10, 7, 3, 0, 0}, 1, BLANK(15)},
-    {Y(SLIP, "0003", "0005"), 0, {10, 10, 0, 0, 2}, 1, BLANK(15)}
+    {X END, 0, 0, {10, 0, 10, 0, 0}, 1, NO_REPORT},
+    {Z_DATED(ISBN, "000J", "20240229"), 0, 0, {10, 0, 10, 0, 0}, 1, DATED(0, 2024, 2, 29)},
+    {Y(SLIP, "0001", "0004"), 0, 0, {10, 4, 6, 0, 0}, 1, DATED(0, 2024, 2, 29)},
+    {Z_DATED(ISBN, "000J", "20230229"), 5, 67, {0, 0, 0, 0, 0}, 0, NOTHING},
+    {Z_DATED(ISBN, "999N", "00000000"), 0, 0, {10, 4, 0, 6, 0}, 1, ZEROED(999)},
+    {Z_DATED(OWN, "000N", "00010101"), 0, 0, {10, 4, 0, 6, 0}, 0, DATED(0, 1, 1, 1)},
+    {Y(SLIP, "0002", "0003"), 0, 0, {10, 7, 0, 3, 0}, 1, DATED(0, 1, 1, 1)},
+    {X END, 14, 0, {0, 0, 0, 0, 0}, 0, NOTHING},
+    {Z_DATED(ISBN, "256J", "99991231"), 0, 0, {10, 7, 3, 0, 0}, 1, DATED(256, 9999, 12, 31)},
+    {Z("015J"), 0, 0, {10, 7, 3, 0, 0}, 1, BLANK(15)},
+    {Y(SLIP, "0003", "0005"), 0, 0, {10, 10, 0, 0, 2}, 1, BLANK(15)}
 };
 
 /* Document 02's supplier, which answers an order by ISBN with its own number. It leaves the
    same counts and figures. */
 static const struct booking_sample own_number_sample[] = {
-    {X END, 0, {10, 0, 10, 0, 0}, 1, NO_REPORT},
-    {Y_OF(OWN, SLIP, "0001", "0004") END, 0, {10, 4, 6, 0, 0}, 0, NO_REPORT},
-    {Y(SLIP, "0001", "0004"), 17, {0, 0, 0, 0, 0}, 0, NOTHING},
-    {Y_OF(OWN, SLIP, "0001", "0004") END, 17, {0, 0, 0, 0, 0}, 0, NOTHING},
-    {Y_OF(OWN, SLIP, "0001", "0005") END, 18, {0, 0, 0, 0, 0}, 0, NOTHING},
-    {Z_OF(OWN, "010N"), 0, {10, 4, 0, 6, 0}, 0, BLANK(10)},
-    {Y(SLIP, "0002", "0003"), 0, {10, 7, 0, 3, 0}, 1, BLANK(10)},
-    {Z("015J"), 0, {10, 7, 3, 0, 0}, 1, BLANK(15)},
-    {X_OF(OWN) END, 14, {0, 0, 0, 0, 0}, 0, NOTHING},
-    {X_OF(AS_OWN) END, 14, {0, 0, 0, 0, 0}, 0, NOTHING},
-    {Y_OF(AS_OWN, SLIP, "0003", "0005") END, 0, {10, 10, 0, 0, 2}, 0, BLANK(15)}
+    {X END, 0, 0, {10, 0, 10, 0, 0}, 1, NO_REPORT},
+    {Y_OF(OWN, SLIP, "0001", "0004") END, 0, 0, {10, 4, 6, 0, 0}, 0, NO_REPORT},
+    {Y(SLIP, "0001", "0004"), 17, 0, {0, 0, 0, 0, 0}, 0, NOTHING},
+    {Y_OF(OWN, SLIP, "0001", "0004") END, 17, 0, {0, 0, 0, 0, 0}, 0, NOTHING},
+    {Y_OF(OWN, SLIP, "0001", "0005") END, 18, 0, {0, 0, 0, 0, 0}, 0, NOTHING},
+    {Z_OF(OWN, "010N"), 0, 0, {10, 4, 0, 6, 0}, 0, BLANK(10)},
+    {Y(SLIP, "0002", "0003"), 0, 0, {10, 7, 0, 3, 0}, 1, BLANK(10)},
+    {Z("015J"), 0, 0, {10, 7, 3, 0, 0}, 1, BLANK(15)},
+    {X_OF(OWN) END, 14, 0, {0, 0, 0, 0, 0}, 0, NOTHING},
+    {X_OF(AS_OWN) END, 14, 0, {0, 0, 0, 0, 0}, 0, NOTHING},
+    {Y_OF(AS_OWN, SLIP, "0003", "0005") END, 0, 0, {10, 10, 0, 0, 2}, 0, BLANK(15)}
 };
 
 /* Document 02's clerk typed 43201 for 43210. An order of ten copies, the entries of the
@@ -372,8 +372,7 @@ static int is_as_stated(const wq_booked *booked, const struct booking_sample *sa
     const uint64_t *wanted = sample->figures;
     const struct said said = {booked->message, booked->expected, booked->year, booked->month,
                               booked->day};
-    return booked->answer == sample->answer
-        && (booked->place == 0 || booked->answer == WQ_FIXED_FIELD)
+    return booked->answer == sample->answer && booked->place == sample->place
         && booked->ordered == wanted[0] && booked->filled == wanted[1]
         && booked->still_open == wanted[2] && booked->let_go == wanted[3]
         && booked->extra == wanted[4] && booked->agreed == sample->agreed
@@ -433,6 +432,7 @@ static void run_roster_samples(const struct side *side)
         ask_account(side, schools, count, record, answer);
     }
 }
+
 /* Each save into the room of two lines; one that is refused leaves it as it was. */
 static void run_load_samples(const struct side *side)
 {
@@ -454,7 +454,6 @@ static void run_load_samples(const struct side *side)
     }
 }
 
-
 void run_samples(void)
 {
     insist(strlen(X END) == 72 && strlen(Y(SLIP, "0001", "0004")) == 113
@@ -469,7 +468,7 @@ void run_samples(void)
         run_bookings(&sides[i], late_sample, sizeof late_sample / sizeof late_sample[0]);
         run_bookings(&sides[i], own_number_sample,
                      sizeof own_number_sample / sizeof own_number_sample[0]);
-        run_load_samples(&sides[i]);
         run_roster_samples(&sides[i]);
+        run_load_samples(&sides[i]);
     }
 }
