@@ -6,19 +6,39 @@
 
 enum {
     NEW_LINE = 700, NEW_SLIP = 800, USED_LINES = 3, USED_SLIPS = 2, MARKS = IN_LET_GO + 2,
-    STATES = 9, SMALL_SAVE = WQ_SAVE_LENGTH(STATES + 2, STATES + 4), YEARS = 9
+    STATES = 9, SMALL_SAVE = WQ_SAVE_LENGTH(STATES + 2, STATES + 4), YEARS = 9,
+    /* J and N, and each of them with each form of the date */
+    LETTERS = 2, SAYINGS = LETTERS * FORMS
 };
 
 /* A report as it stands in a record. */
 struct report { uint8_t mark; size_t message; uint8_t date[IN_DAY]; };
 
-static struct report make_report_of(struct dice *dice, size_t message, enum form form)
+static uint8_t mark_in_turn(size_t turn)
+{
+    return turn % LETTERS == 0 ? IN_HELD : IN_LET_GO;
+}
+
+static uint8_t any_mark(struct dice *dice)
+{
+    return mark_in_turn(below(dice, LETTERS));
+}
+
+static struct report make_report_of(struct dice *dice, uint8_t mark, size_t message,
+                                    enum form form)
 {
     struct report report;
-    report.mark = chance(dice, 2) ? IN_HELD : IN_LET_GO;
+    report.mark = mark;
     report.message = message;
     make_expected(dice, form, report.date);
     return report;
+}
+
+/* One of the sayings: by J with each form of the date, then by N. */
+static struct report make_saying(struct dice *dice, size_t saying, size_t message)
+{
+    return make_report_of(dice, mark_in_turn(saying / FORMS), message,
+                          (enum form)(saying % FORMS));
 }
 
 /* Books it for the line with this key, by the line's article or another. */
@@ -86,46 +106,55 @@ static void order_new(struct dice *dice, struct shelf *shelf, uint8_t *key)
     keep_report(dice, shelf, key, NO_REPORT_KEPT, &none);
 }
 
-/* The first report on a line: both ends of the messages with each form of the date, and any
-   message. */
+/* The first report on a line: both ends of the messages and any message, in each saying. The
+   classes of a message stand in the order of sayings. */
 static void report_first(struct dice *dice)
 {
     static const size_t messages[] = {0, IN_MOST_MESSAGE, 1, 255, 256, 257, 512, 998};
     static struct shelf shelf;
     uint8_t key[IN_TITLED];
-    for (size_t i = 0; i < 9 * FORMS; i++) {
-        enum form form = (enum form)(i % FORMS);
-        size_t message = i / FORMS < 8 ? messages[i / FORMS] : make_message(dice);
-        struct report report = make_report_of(dice, message, form);
+    for (size_t i = 0; i < 9 * SAYINGS; i++) {
+        size_t saying = i % SAYINGS, which = i / SAYINGS;
+        enum form form = (enum form)(saying % FORMS);
+        size_t message = which < 8 ? messages[which] : make_message(dice);
+        struct report report = make_saying(dice, saying, message);
         struct said said = said_of(message, form, report.date);
-        enum class class = (enum class)(form + (message == 0 ? MESSAGE_000_WITH_DAY
-            : message == IN_MOST_MESSAGE ? MESSAGE_999_WITH_DAY : MESSAGE_WITH_DAY));
+        enum class class = (enum class)(saying + (message == 0 ? MESSAGE_000_HELD_WITH_DAY
+            : message == IN_MOST_MESSAGE ? MESSAGE_999_HELD_WITH_DAY : MESSAGE_HELD_WITH_DAY));
         order_new(dice, &shelf, key);
         expect_said(class, book_report(dice, &shelf, key, &report), &shelf, key, &said);
         keep_report(dice, &shelf, key, (enum class)(DAY_KEPT + form), &said);
     }
 }
 
-/* A report after a report: each form after each form, with another message and with the same,
-   by the same mark and by the other. */
-static void report_again(struct dice *dice)
+/* A report after a report, with a delivery between them now and then, and once more. */
+static void report_after(struct dice *dice, const struct report *before,
+                         const struct report *after, const struct said *said, enum class class)
 {
     static struct shelf shelf;
     uint8_t key[IN_TITLED];
-    for (size_t i = 0; i < 4 * FORMS * FORMS; i++) {
-        enum form first = (enum form)(i % FORMS), then = (enum form)(i / FORMS % FORMS);
-        struct report before = make_report_of(dice, make_message(dice), first);
-        struct report after = make_report_of(dice, make_message(dice), then);
-        enum class class = (enum class)(DAY_AFTER_DAY + first * FORMS + then);
-        if (i % 4 == 0)
-            after.message = before.message;
-        struct said said = said_of(after.message, then, after.date);
-        order_new(dice, &shelf, key);
-        expect(class, 1, book_report(dice, &shelf, key, &before), 0);
-        if (chance(dice, 2))
-            expect(class, 1, deliver_new(dice, &shelf, key), 0);
-        expect_said(class, book_report(dice, &shelf, key, &after), &shelf, key, &said);
-        expect_said(REPORT_REPEATED, book_report(dice, &shelf, key, &after), &shelf, key, &said);
+    order_new(dice, &shelf, key);
+    expect(class, 1, book_report(dice, &shelf, key, before), 0);
+    if (chance(dice, 2))
+        expect(class, 1, deliver_new(dice, &shelf, key), 0);
+    expect_said(class, book_report(dice, &shelf, key, after), &shelf, key, said);
+    expect_said(REPORT_REPEATED, book_report(dice, &shelf, key, after), &shelf, key, said);
+}
+
+/* Each form after each form, by the same mark and by the other, with another message and with
+   the same. */
+static void report_again(struct dice *dice)
+{
+    for (size_t i = 0; i < 2 * SAYINGS * SAYINGS; i++) {
+        size_t first = i % SAYINGS, then = i / SAYINGS % SAYINGS;
+        size_t forms = first % FORMS * FORMS + then % FORMS;
+        size_t marks = first / FORMS * LETTERS + then / FORMS;
+        const struct report before = make_saying(dice, first, make_message(dice));
+        const struct report after = make_saying(dice, then, i < SAYINGS * SAYINGS
+                                                ? before.message : make_message(dice));
+        const struct said said = said_of(after.message, (enum form)(then % FORMS), after.date);
+        report_after(dice, &before, &after, &said, (enum class)(DAY_AFTER_DAY + forms));
+        came_up((enum class)(HELD_AFTER_HELD + marks), 1);
     }
 }
 
@@ -146,7 +175,7 @@ static void judge_book(struct dice *dice, const struct shelf *shelf, int sound, 
 {
     static struct shelf copy;
     static uint8_t out[SMALL_SAVE];
-    const struct report report = make_report_of(dice, make_message(dice), A_DAY);
+    const struct report report = make_report_of(dice, any_mark(dice), make_message(dice), A_DAY);
     const uint8_t *line = shelf->lines + below(dice, shelf->used[0]) * IN_LINE;
     const uint64_t wanted = sound ? 0 : 20;
     uint8_t key[IN_TITLED];
@@ -234,7 +263,7 @@ static const struct { const char *bytes; enum kind kind; } dates[] = {
 static void judge_dates(struct dice *dice)
 {
     for (size_t i = 0; i < sizeof dates / sizeof dates[0]; i++) {
-        uint8_t mark = chance(dice, 2) ? IN_HELD : IN_LET_GO;
+        uint8_t mark = any_mark(dice);
         enum kind kind = dates[i].kind;
         struct report message = {mark, make_message(dice), {0}}, unknown = {mark, IN_UNKNOWN, {0}};
         struct report none = {IN_NO_MARK, IN_NO_REPORT, {0}};
@@ -274,7 +303,7 @@ static void stock_states(struct dice *dice, struct shelf *shelf)
     for (size_t i = 0; i < STATES; i++) {
         uint8_t *line = shelf->lines + i * IN_LINE, date[IN_DAY];
         size_t kind = i / 2, none = i == STATES - 1, known = kind < FORMS;
-        uint8_t mark = none ? IN_NO_MARK : i % 2 ? IN_HELD : IN_LET_GO;
+        uint8_t mark = none ? IN_NO_MARK : mark_in_turn(i);
         make_expected(dice, known ? (enum form)kind : BLANKS, date);
         put_state(line, mark, none ? IN_NO_REPORT : known ? make_message(dice) : IN_UNKNOWN,
                   date);
@@ -305,7 +334,7 @@ static void report_on_loaded(struct dice *dice, struct shelf *loaded, size_t ind
     const uint8_t *line = loaded->lines + index * IN_LINE;
     int marked = line[IN_MARK] != IN_NO_MARK;
     const struct said said = {marked ? IN_UNKNOWN : IN_NO_REPORT, IN_AS_BLANKS, 0, 0, 0};
-    const struct report report = make_report_of(dice, make_message(dice), form);
+    const struct report report = make_report_of(dice, any_mark(dice), make_message(dice), form);
     const struct said new_said = said_of(report.message, form, report.date);
     uint8_t key[IN_TITLED];
     memcpy(key, line, IN_TITLED);
@@ -349,68 +378,97 @@ void compare_reports(struct dice *dice)
 
 /* --- Every byte and every day --- */
 
-/* A book of one line in this state is told, or is 20. */
-static void ask_state(struct shelf *shelf, enum class class)
+/* A book of one line is walked through many states. In each the line is asked for, or a delivery
+   or a report is booked on it, in turn: 20 where the state is not sound. The classes of a walk
+   stand in the order of these calls. */
+static void walk_state(struct dice *dice, struct shelf *shelf, size_t turn, enum class class)
 {
-    expect(class, 1, ask_line(shelf->lines, shelf), is_sound_state(shelf->lines) ? 0 : 20);
+    enum { ASKED, DELIVERED, REPORTED, CALLS };
+    const struct report report = make_report_of(dice, any_mark(dice), make_message(dice), A_DAY);
+    const uint64_t wanted = is_sound_state(shelf->lines) ? 0 : 20;
+    uint8_t line[IN_LINE];
+    size_t call = turn % CALLS;
+    memcpy(line, shelf->lines, IN_LINE);
+    uint64_t answer = call == ASKED ? ask_line(line, shelf)
+                    : call == DELIVERED ? deliver_new(dice, shelf, line)
+                                        : book_report(dice, shelf, line, &report);
+    expect((enum class)(class + call), 1, answer, wanted);
+    memcpy(shelf->lines, line, IN_LINE);
+    shelf->used[1] = 0;
 }
 
-/* Every value of every byte that a line has of its last report, beside a state of each kind:
-   two lines have each of them, but for the last. */
-static void ask_every_byte(struct dice *dice)
+static struct shelf *shelf_to_walk(struct dice *dice)
 {
-    static struct shelf shelf, states;
-    stock_states(dice, &states);
-    for (size_t i = 0; i < STATES; i += 2) {
-        copy_shelf(&shelf, &states);
-        shelf.used[0] = 1;
-        shelf.used[1] = 0;
-        memcpy(shelf.lines, states.lines + i * IN_LINE, IN_LINE);
-        for (size_t place = IN_MARK; place < IN_ARRIVED; place++) {
-            uint8_t was = shelf.lines[place];
-            for (size_t value = 0; value < 256; value++) {
-                shelf.lines[place] = (uint8_t)value;
-                ask_state(&shelf, EVERY_BYTE_OF_STATE);
-            }
-            shelf.lines[place] = was;
-        }
-    }
-}
-
-/* Every day of a few years, and the days and months on both sides of each end. */
-static void ask_every_day(struct dice *dice)
-{
-    const size_t years[YEARS] = {0, 1, 4, 1900, 2000, 2023, 2024, 9999, between(dice, 5, 9998)};
     static struct shelf shelf;
-    uint8_t date[IN_DAY];
     make_shelf(dice, &shelf, 1, 1);
     stock_unique(dice, &shelf, 1, 0);
+    return &shelf;
+}
+
+/* Every value of every byte that a line has of its last report, beside each kind of state; on
+   the states by J, and on those by N, each value meets each of the calls. */
+static void walk_bytes(struct dice *dice)
+{
+    static struct shelf states;
+    struct shelf *shelf = shelf_to_walk(dice);
+    stock_states(dice, &states);
+    for (size_t i = 0; i < STATES; i++)
+        for (size_t place = IN_MARK; place < IN_ARRIVED; place++)
+            for (size_t value = 0; value < 256; value++) {
+                memcpy(shelf->lines, states.lines + i * IN_LINE, IN_LINE);
+                shelf->lines[place] = (uint8_t)value;
+                walk_state(dice, shelf, i + place + value, BYTES_ASKED);
+            }
+}
+
+/* Every day of a few years, and the days and months on both sides of each end; over the years
+   each meets both marks and each of the calls. */
+static void walk_days(struct dice *dice)
+{
+    const size_t years[YEARS] = {0, 1, 4, 1900, 2000, 2023, 2024, 9999, between(dice, 5, 9998)};
+    struct shelf *shelf = shelf_to_walk(dice);
+    uint8_t date[IN_DAY];
     for (size_t i = 0; i < YEARS; i++)
         for (size_t month = 0; month <= 13; month++)
             for (size_t day = 0; day <= 32; day++) {
+                size_t turn = i + month + day;
                 put_digits(date, 4, years[i]);
                 put_digits(date + IN_MONTH, 2, month);
                 put_digits(date + IN_DAY_OF_MONTH, 2, day);
-                put_state(shelf.lines, IN_HELD, make_message(dice), date);
-                ask_state(&shelf, EVERY_DAY_OF_YEARS);
+                put_state(shelf->lines, mark_in_turn(turn), make_message(dice), date);
+                walk_state(dice, shelf, turn, DAYS_ASKED);
             }
 }
 
-/* Every message there is, and as many numbers behind it, with a mark. */
-static void ask_every_message(struct dice *dice)
+/* Every message there is, and as many numbers behind it, with both marks in turn. */
+static void walk_messages(struct dice *dice)
 {
-    static struct shelf shelf;
-    make_shelf(dice, &shelf, 1, 1);
-    stock_unique(dice, &shelf, 1, 0);
+    struct shelf *shelf = shelf_to_walk(dice);
+    size_t start = below(dice, IN_MOST_MESSAGE);
     for (size_t message = 0; message <= 2 * IN_MOST_MESSAGE; message++) {
-        put_state(shelf.lines, IN_LET_GO, message, BLANK_DATE);
-        ask_state(&shelf, EVERY_MESSAGE);
+        size_t turn = start + message;
+        put_state(shelf->lines, mark_in_turn(turn), message, BLANK_DATE);
+        walk_state(dice, shelf, turn, MESSAGES_ASKED);
+    }
+}
+
+/* Every message, said by a report, one after the other on one line. */
+static void report_every_message(struct dice *dice)
+{
+    struct shelf *shelf = shelf_to_walk(dice);
+    for (size_t message = 0; message <= IN_MOST_MESSAGE; message++) {
+        enum form form = (enum form)below(dice, FORMS);
+        const struct report report = make_report_of(dice, mark_in_turn(message), message, form);
+        const struct said said = said_of(message, form, report.date);
+        expect(EVERY_MESSAGE_SAID, 1, book_report(dice, shelf, shelf->lines, &report), 0);
+        insist(is_same_said(&tally.said, &said), "a report is told as it was made");
     }
 }
 
 void compare_report_bytes(struct dice *dice)
 {
-    ask_every_byte(dice);
-    ask_every_day(dice);
-    ask_every_message(dice);
+    walk_bytes(dice);
+    walk_days(dice);
+    walk_messages(dice);
+    report_every_message(dice);
 }
