@@ -157,24 +157,23 @@ static void insist(int holds, const char *what)
     exit(1);
 }
 
+/* The bits in which two results differ: those that a booking and the call by key both give. */
+#define UNLIKE_TOLD(one, other) \
+    (((one)->answer ^ (other)->answer) | ((one)->place ^ (other)->place) \
+     | ((one)->ordered ^ (other)->ordered) | ((one)->filled ^ (other)->filled) \
+     | ((one)->still_open ^ (other)->still_open) | ((one)->let_go ^ (other)->let_go) \
+     | ((one)->extra ^ (other)->extra) | ((one)->message ^ (other)->message) \
+     | ((one)->expected ^ (other)->expected) | ((one)->year ^ (other)->year) \
+     | ((one)->month ^ (other)->month) | ((one)->day ^ (other)->day))
+
 static uint64_t unlike(const wq_booked *one, const wq_booked *other)
 {
-    return (one->answer ^ other->answer) | (one->place ^ other->place)
-         | (one->ordered ^ other->ordered) | (one->filled ^ other->filled)
-         | (one->still_open ^ other->still_open) | (one->let_go ^ other->let_go)
-         | (one->extra ^ other->extra) | (one->agreed ^ other->agreed)
-         | (one->message ^ other->message) | (one->expected ^ other->expected)
-         | (one->year ^ other->year) | (one->month ^ other->month) | (one->day ^ other->day);
+    return UNLIKE_TOLD(one, other) | (one->agreed ^ other->agreed);
 }
 
 static uint64_t unlike_told(const wq_told *one, const wq_told *other)
 {
-    return (one->answer ^ other->answer) | (one->place ^ other->place)
-         | (one->ordered ^ other->ordered) | (one->filled ^ other->filled)
-         | (one->still_open ^ other->still_open) | (one->let_go ^ other->let_go)
-         | (one->extra ^ other->extra)
-         | (one->message ^ other->message) | (one->expected ^ other->expected)
-         | (one->year ^ other->year) | (one->month ^ other->month) | (one->day ^ other->day);
+    return UNLIKE_TOLD(one, other);
 }
 
 /* --- The calls that are timed --- */
