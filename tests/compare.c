@@ -8,7 +8,7 @@
 #include <stdio.h>
 #include <stdlib.h>
 
-static const uint64_t default_calls = 1100000, default_seed = 1;
+static const uint64_t default_calls = 1150000, default_seed = 1;
 
 enum { FAR_EVERY = 4 };
 

@@ -446,19 +446,20 @@ static void walk_messages(struct dice *dice)
     struct shelf *shelf = shelf_to_walk(dice);
     size_t start = below(dice, IN_MOST_MESSAGE);
     for (size_t message = 0; message <= 2 * IN_MOST_MESSAGE; message++) {
-        size_t turn = start + message;
-        put_state(shelf->lines, mark_in_turn(turn), message, BLANK_DATE);
-        walk_state(dice, shelf, turn, MESSAGES_ASKED);
+        put_state(shelf->lines, mark_in_turn(message), message, BLANK_DATE);
+        walk_state(dice, shelf, start + message, MESSAGES_ASKED);
     }
 }
 
-/* Every message, said by a report, one after the other on one line. */
+/* Every message, said by reports, one after the other on one line, each by the mark that it was
+   not walked with. */
 static void report_every_message(struct dice *dice)
 {
     struct shelf *shelf = shelf_to_walk(dice);
     for (size_t message = 0; message <= IN_MOST_MESSAGE; message++) {
         enum form form = (enum form)below(dice, FORMS);
-        const struct report report = make_report_of(dice, mark_in_turn(message), message, form);
+        uint8_t mark = mark_in_turn(message + 1);
+        const struct report report = make_report_of(dice, mark, message, form);
         const struct said said = said_of(message, form, report.date);
         expect(EVERY_MESSAGE_SAID, 1, book_report(dice, shelf, shelf->lines, &report), 0);
         insist(is_same_said(&tally.said, &said), "a report is told as it was made");
