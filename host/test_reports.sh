@@ -137,7 +137,7 @@ expect_rows "refused reports" <<'LIST'
  24000 VD S-1 10 0 10 - 0 0 no report yet
 LIST
 
-# --- another message with the same mark leaves the saved book as it is, and is in the log alone ----------
+# --- another message with the same mark leaves the saved book as it is; the log names its file ---------
 sed 's/015 20240315$/022 no day named/' wanted >rows
 cp -p single.book kept
 cp -p single.book.log kept_log
