@@ -11,7 +11,7 @@ int is_same_book(const struct shelf *shelf, const struct shelf *other)
     for (size_t i = 0; i < shelf->used[0]; i++) {
         const uint8_t *line = shelf->lines + i * IN_LINE, *loaded = other->lines + i * IN_LINE;
         if (memcmp(loaded, line, IN_BODY) != 0
-            || memcmp(loaded + IN_ARRIVED, line + IN_ARRIVED, IN_LINE - IN_ARRIVED) != 0)
+            || memcmp(loaded + IN_ARRIVED, line + IN_ARRIVED, IN_ARRIVED_WIDTH) != 0)
             return 0;
     }
     return 1;

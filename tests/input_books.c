@@ -121,14 +121,19 @@ void add_open(struct dice *dice, struct shelf *shelf, const uint8_t *account, si
     }
 }
 
+static size_t arrived_on(const uint8_t *line)
+{
+    return get_little(line + IN_ARRIVED, IN_ARRIVED_WIDTH);
+}
+
 /* What a line's copies come to, reckoned here a second time on purpose. */
 struct figures figures_on(const uint8_t *line)
 {
-    size_t ordered = get_little(line + IN_ORDERED, 2);
-    size_t arrived = get_little(line + IN_ARRIVED, IN_LINE - IN_ARRIVED);
+    size_t ordered = get_little(line + IN_ORDERED, 2), arrived = arrived_on(line);
     size_t missing = arrived < ordered ? ordered - arrived : 0;
-    struct figures figures = {ordered, ordered - missing, 0, 0, arrived + missing - ordered};
-    *(line[IN_MARK] == IN_LET_GO ? &figures.let_go : &figures.still_open) = missing;
+    int let_go = line[IN_MARK] == IN_LET_GO;
+    const struct figures figures = {ordered, ordered - missing, let_go ? 0 : missing,
+                                    let_go ? missing : 0, arrived + missing - ordered};
     return figures;
 }
 
@@ -188,14 +193,13 @@ static void begin_line(const uint8_t *order, uint8_t *line)
     memcpy(line + IN_KEY, order + IN_ORDER_REFERENCE + IN_NAME, IN_TITLE);
     put_little(line + IN_ORDERED, 2, get_digits(order + IN_ORDER_COPIES, IN_QUANTITY));
     put_state(line, IN_NO_MARK, IN_NO_REPORT, BLANK_DATE);
-    put_little(line + IN_ARRIVED, IN_LINE - IN_ARRIVED, 0);
+    put_little(line + IN_ARRIVED, IN_ARRIVED_WIDTH, 0);
 }
 
 static void add_copies(const uint8_t *delivery, uint8_t *line)
 {
     size_t copies = get_digits(delivery + IN_DELIVERY_COPIES, IN_QUANTITY);
-    size_t arrived = get_little(line + IN_ARRIVED, IN_LINE - IN_ARRIVED);
-    put_little(line + IN_ARRIVED, IN_LINE - IN_ARRIVED, arrived + copies);
+    put_little(line + IN_ARRIVED, IN_ARRIVED_WIDTH, arrived_on(line) + copies);
 }
 
 static void take_report(const uint8_t *report, uint8_t *line)

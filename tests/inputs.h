@@ -18,6 +18,7 @@ enum {
     /* where the parts of a line, of a slip and of a delivery's fixed part start; in a save
        the byte of kind stands before a line or slip */
     IN_ORDERED = 49, IN_MARK = 51, IN_MESSAGE = 52, IN_EXPECTED = 54, IN_ARRIVED = 62,
+    IN_ARRIVED_WIDTH = IN_LINE - IN_ARRIVED,
     IN_LINE_OF_SLIP = 46, IN_COPIES = 48,
     /* what a save has of a line, and what a line has of its last report */
     IN_BODY = IN_MESSAGE, IN_STATE = IN_ARRIVED - IN_MARK,

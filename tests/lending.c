@@ -501,7 +501,7 @@ static void insist_booked(const uint8_t *record, const struct shelf *before,
     insist(after->used[0] == before->used[0] + (order ? 1 : 0), "an order alone adds a line");
     insist(memcmp(line, wanted, IN_ARRIVED) == 0,
            "an order sets what it orders, a report what it says, and no other record does");
-    insist(memcmp(line + IN_ARRIVED, wanted + IN_ARRIVED, IN_LINE - IN_ARRIVED) == 0,
+    insist(memcmp(line + IN_ARRIVED, wanted + IN_ARRIVED, IN_ARRIVED_WIDTH) == 0,
            "nothing has arrived for an order, a delivery adds its copies, a report adds none");
     insist(are_others_kept(before, after, place), "a booking changes its own line alone");
     insist_told_of(line);
