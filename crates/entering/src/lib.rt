@@ -16,6 +16,7 @@ use cells::part;
 use entry::line::Line;
 use entry::line::Mark;
 use entry::report::Message;
+use entry::report::expected_date;
 use judging::keys::slip_key;
 use record::layout::Kind;
 use record::places::ARTICLE;
@@ -34,7 +35,6 @@ use record::places::SENDER;
 use rules::amount::Copies;
 use rules::amount::copies_of;
 use rules::expected::Expected;
-use rules::expected::expected_of;
 use rules::number::number_of;
 use stored::article_is;
 use stored::read_line;
@@ -142,7 +142,7 @@ pub fn enter_report(s: &[u8], lines: &mut [u8], slips: &[u8], used: &[usize; 2],
     let mark = mark_in(s);
     let message = message_in(s);
     let date = part(s, EXPECTED, PARTIAL);
-    let l = read_line(lines, i).with_report(mark, message, expected_of(date));
+    let l = read_line(lines, i).with_report(mark, message, expected_date(date));
     write_report(lines, i, mark, message, date);
     with_agreed(done(l), same_article)
 }

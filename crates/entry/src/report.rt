@@ -4,8 +4,10 @@ ghost use Rattle.entry.specs.Report.{blankDate, messageOf, messageNumber
 ghost use lib.ListN.{length};
 ghost use Rattle.cells.specs.Bytes.{same};
 ghost use Rattle.rules.specs.Day.{dayWidth};
+ghost use Rattle.rules.specs.Values.{expectedOf};
 use cells::little::word8;
 use rules::expected::Expected;
+use rules::expected::expected_of;
 use rules::rule::is_expected;
 
 // The last message: no report so far, a report whose number is not known any more, or its number; 000 is a number like any other.
@@ -114,6 +116,17 @@ fn is_blank_date(date: &[u8]) -> bool
     ensures { λ r. ⌜ r ≡ same (now (date .entry)) blankDate ⌝ }
 {
     word8(date, 0) == BLANK_WORD
+}
+
+// Which of its three forms an expected date has; eight blanks are told first, since most lines have them.
+pub fn expected_date(date: &[u8]) -> Expected
+    requires { ⌜ length (now date) ≡ dayWidth ⌝ }
+    ensures { λ r. ⌜ r ≡ expectedOf (now (date .entry)) ⌝ }
+{
+    if is_blank_date(date) {
+        return Expected::Blanks;
+    }
+    expected_of(date)
 }
 
 // Whether a mark's byte, a message's number and the bytes of an expected date go together.

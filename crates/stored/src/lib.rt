@@ -21,11 +21,11 @@ use entry::line::mark_of;
 use entry::line::missing;
 use entry::line::open_of;
 use entry::report::Message;
+use entry::report::expected_date;
 use entry::report::is_report_sound;
 use entry::report::message_number;
 use entry::report::message_of;
 use rules::amount::Copies;
-use rules::expected::expected_of;
 
 pub const LINE_WIDTH: usize = 66;
 
@@ -77,7 +77,7 @@ pub fn read_line(lines: &[u8], i: usize) -> Line
     let ordered = Copies(get2(lines, at + ORDERED_AT));
     let mark = mark_of(lines[at + MARK_AT]);
     let message = message_of(get2(lines, at + MESSAGE_AT));
-    let expected = expected_of(date_at(lines, i));
+    let expected = expected_date(date_at(lines, i));
     let arrived = Copies(get4(lines, at + ARRIVED_AT));
     Line {
         ordered,

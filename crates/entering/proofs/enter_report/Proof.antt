@@ -23,8 +23,11 @@ part-requires-2 c κs = search needs
 read-line-requires : tie.Need-read-line-requires
 read-line-requires c κs = search needs
 
-expected-of-requires : tie.Need-expected-of-requires
-expected-of-requires c κs = search needs
+expected-date-requires : tie.Need-expected-date-requires
+expected-date-requires c κs =
+    let part = c .before .before in
+    let start = part .before .before .before .before .before .before .before .before .before in
+    rw (part .part2 .ensures) (date-long (start .args .s .now) (start .pre .0))
 
 with-report-requires : tie.Need-with-report-requires
 with-report-requires c κs = search needs
@@ -55,7 +58,7 @@ returns c =
     let message = date .before in
     let mark = message .before in
     let named = mark .before in
-    rw (c .with-agreed .ensures, told .done .ensures, write .write-report .ensures, line .with-report .ensures, expected .expected-of .ensures, read .read-line .ensures, date .part2 .ensures, ← date-is _, message .message-in .ensures, mark .mark-in .ensures, named .agreed .ensures, named .before .part .ensures, ← report-article-is _) (report-entered _ _ _ _ _)
+    rw (c .with-agreed .ensures, told .done .ensures, write .write-report .ensures, line .with-report .ensures, expected .expected-date .ensures, read .read-line .ensures, date .part2 .ensures, ← date-is _, message .message-in .ensures, mark .mark-in .ensures, named .agreed .ensures, named .before .part .ensures, ← report-article-is _) (report-entered _ _ _ _ _)
 
 pub enter-report-spec : {M : Type 1} → statement M
 enter-report-spec =
@@ -67,7 +70,7 @@ enter-report-spec =
     message-in-requires
     part-requires-2
     read-line-requires
-    expected-of-requires
+    expected-date-requires
     with-report-requires
     write-report-requires
     done-requires

@@ -1,5 +1,6 @@
 -- `stored::read_line` meets its contract: Q, the last report and A are read at their places.
 use Rattle.entry.specs.Stored.{lineAt}
+use Rattle.entry.proofs.Kept.{date-long}
 use borrow.Author.Needs.{needs}
 use Rattle.stored.proofs.read_line.Statement.{statement}
 use Rattle.stored.proofs.read_line.Tie as tie
@@ -34,8 +35,10 @@ message-of-requires c κs = search needs
 date-at-requires : tie.Need-date-at-requires
 date-at-requires c κs = search needs
 
-expected-of-requires : tie.Need-expected-of-requires
-expected-of-requires c κs = search needs
+expected-date-requires : tie.Need-expected-date-requires
+expected-date-requires c κs =
+    let start = c .before .before .before .before .before .before .before in
+    rw (c .date-at .ensures) (date-long (start .args .lines .now) (start .args .i) (start .pre))
 
 add-get4 : tie.Need-add-get4
 add-get4 c = search needs
@@ -49,7 +52,7 @@ returns c =
     let e = c .before in
     let m = e .before .before in
     let k = m .before .before in
-    rw (c .get4 .ensures .is, e .expected-of .ensures, e .before .date-at .ensures, m .message-of .ensures, m .before .get22 .ensures .is, k .mark-of .ensures, k .before .before .get2 .ensures .is)
+    rw (c .get4 .ensures .is, e .expected-date .ensures, e .before .date-at .ensures, m .message-of .ensures, m .before .get22 .ensures .is, k .mark-of .ensures, k .before .before .get2 .ensures .is)
 
 pub read-line-spec : {M : Type 1} → statement M
 read-line-spec =
@@ -65,7 +68,7 @@ read-line-spec =
     get2-requires-2
     message-of-requires
     date-at-requires
-    expected-of-requires
+    expected-date-requires
     add-get4
     get4-requires
     returns)
