@@ -261,7 +261,7 @@ extern "C" {
  * is none, one of the other two stands in its place. */
 #define WQ_MOST_MESSAGE 999
 #define WQ_NO_REPORT 65535       /* no report yet */
-#define WQ_MESSAGE_UNKNOWN 65534 /* a report came, but the book was loaded since */
+#define WQ_MESSAGE_UNKNOWN 65534 /* a report came, but an old save did not keep its message */
 
 /* An expected date: which of its three forms it has. */
 #define WQ_EXPECTED_DAY 1
@@ -285,16 +285,23 @@ extern "C" {
 
 /* ---- The saved book -------------------------------------------------------------------
  * Lines, then slips, in book order, then the end. Each entry is one byte of kind and a
- * body: a line's first 52 bytes (so neither message nor expected date), a slip's 50 bytes, or
- * used lines (2) and used slips (2). */
+ * body: a line's front, a slip's 50 bytes, or used lines (2) and used slips (2).
+ * There are two forms, and they differ in their lines alone. In the new form, which is the
+ * one that is written, a line's front is its first 62 bytes: all but its arrived. In the old
+ * form it is its first 52 bytes, so neither message nor expected date. All lines of a save
+ * are of one form; a save without lines is of both. */
 #define WQ_SAVE_END 0
-#define WQ_SAVE_LINE 1
+#define WQ_SAVE_OLD_LINE 1
 #define WQ_SAVE_SLIP 2
-#define WQ_SAVE_LINE_WIDTH 53
+#define WQ_SAVE_LINE 3
+#define WQ_SAVE_LINE_WIDTH 63
+#define WQ_SAVE_OLD_LINE_WIDTH 53
 #define WQ_SAVE_SLIP_WIDTH 51
 #define WQ_SAVE_END_WIDTH 5
 #define WQ_SAVE_LENGTH(lines, slips) \
     ((lines) * WQ_SAVE_LINE_WIDTH + (slips) * WQ_SAVE_SLIP_WIDTH + WQ_SAVE_END_WIDTH)
+#define WQ_SAVE_OLD_LENGTH(lines, slips) \
+    ((lines) * WQ_SAVE_OLD_LINE_WIDTH + (slips) * WQ_SAVE_SLIP_WIDTH + WQ_SAVE_END_WIDTH)
 
 /* ---- Answers --------------------------------------------------------------------------
  * Places are bytes of the record, counted from 0; from 11 on the place is 0. Writing has
@@ -327,6 +334,7 @@ extern "C" {
 #define WQ_CEILING_PASSED 25   /* The order would bring the school above its ceiling. */
 #define WQ_PARTS_BROKEN 26     /* A bundle without parts, or parts that are not as they must be. */
 #define WQ_TOO_MANY_PARTS 27   /* More than eight parts. */
+#define WQ_MESSAGE_LOST 28     /* The old form would lose the message of a line. */
 
 /* ---- Results -------------------------------------------------------------------------- */
 typedef struct { uint64_t answer, place, fields; } wq_checked;
@@ -438,25 +446,42 @@ wq_booked wq_book(const uint8_t *record, size_t record_length, const uint8_t *ro
 wq_told wq_line(const uint8_t *school, size_t school_length, const uint8_t *school_qualifier, size_t school_qualifier_length, const uint8_t *supplier, size_t supplier_length, const uint8_t *supplier_qualifier, size_t supplier_qualifier_length, const uint8_t *reference, size_t reference_length, const uint8_t *lines, size_t lines_length, const uint8_t *slips, size_t slips_length, const size_t *used);
 
 /* Saves the book: writes WQ_SAVE_LENGTH(used[0], used[1]) bytes to `out` and gives that
- * `length`. The rest of `out` and the book never change. It takes every sound book; a book
- * made by bookings from an empty one loads again with equal counts and used entries, but for
- * message and expected date, which are not saved.
+ * `length`: the new form. The rest of `out` and the book never change. It takes every sound
+ * book; a book made by bookings from an empty one, or from a loaded one, loads again with
+ * equal counts and used entries.
  * Refusals: 20, then 23 where `out` is too small. */
 wq_saved wq_save(const uint8_t *lines, size_t lines_length, const uint8_t *slips, size_t slips_length, const size_t *used, uint8_t *out, size_t out_length);
 
-/* Loads a save: replaces used[0] and used[1] and fills the entries they count; each line's
- * arrived is the sum of its slips, its message WQ_MESSAGE_UNKNOWN where it has a mark, else
- * WQ_NO_REPORT, and its expected date eight blanks. Entries past them and the saved bytes
- * never change. What the book held before is not judged and is lost.
+/* Loads a save of either form: replaces used[0] and used[1] and fills the entries they count;
+ * each line's arrived is the sum of its slips. From the old form a line's message is
+ * WQ_MESSAGE_UNKNOWN where it has a mark, else WQ_NO_REPORT, and its expected date eight
+ * blanks. Entries past them and the saved bytes never change. What the book held before is
+ * not judged and is lost.
  * Each key is compared with those before it, and the slips of each line are looked for
  * among all slips, so the time grows as lines squared plus slips squared: about a
  * millisecond for a full book (docs/PERFORMANCE.md). A save of more lines or slips than any
  * room has, up to 65,535 of each, is judged whole too before it is answered 23: what is
  * longer than WQ_SAVE_LENGTH(WQ_MOST_LINES, WQ_MOST_SLIPS) need not be tried.
- * Refusals: 20 for room sizes alone; 22 for bytes that are not exactly one valid save, keys
- * that repeat (also of two lines with different articles), or a line with more than
- * 9,999,999 arrived; 23 where the save is valid but has more lines or slips than the rooms. */
+ * Refusals: 20 for room sizes alone; 22 for bytes that are not exactly one valid save, lines
+ * of both forms, keys that repeat (also of two lines with different articles), a mark, a
+ * message and an expected date that do not go together, or a line with more than 9,999,999
+ * arrived; 23 where the save is valid but has more lines or slips than the rooms. */
 wq_loaded wq_load(const uint8_t *saved, size_t saved_length, uint8_t *lines, size_t lines_length, uint8_t *slips, size_t slips_length, size_t *used);
+
+/* Turns a save of the old form into one of the new form: writes the WQ_SAVE_LENGTH bytes of
+ * its lines and slips to `out` and gives that `length`. Loading either gives the same book,
+ * and wq_to_old of what was written gives the bytes of `saved` again. The rest of `out` and
+ * the saved bytes never change. It takes as long as loading.
+ * Refusals: 22 for bytes that are not exactly one valid save of the old form, then 23 where
+ * `out` is too small. */
+wq_saved wq_to_new(const uint8_t *saved, size_t saved_length, uint8_t *out, size_t out_length);
+
+/* Turns a save of the new form back into one of the old form, of WQ_SAVE_OLD_LENGTH bytes,
+ * where nothing is lost by it: wq_to_new of what was written gives the bytes of `saved` again.
+ * All else as wq_to_new.
+ * Refusals: 22 for bytes that are not exactly one valid save of the new form, 28 where a
+ * line's message is a number of 0 to WQ_MOST_MESSAGE, then 23. */
+wq_saved wq_to_old(const uint8_t *saved, size_t saved_length, uint8_t *out, size_t out_length);
 
 /* Gives the ceiling of the first school with this account, as wq_book would find it. `count`
  * counts schools, and `schools` is aligned to 4 bytes. An address or a qualifier of another
