@@ -1,4 +1,4 @@
--- What the entries of a save hold (RULES 9.1). The body of an entry is given by its index.
+-- What the entries of a save hold, in either form (RULES 9.1). The front of a line and the body of a slip are given by their index.
 use Prim.Native.Nat.{ℕ, _+_}
 use mathlib.Core.Bool.{Bool, not, _&&_}
 use mathlib.Core.List.{List, _++_, map}
@@ -13,9 +13,10 @@ use Rattle.rules.specs.declared.class.Class.the-variants.{Allowed, Blank}
 use Rattle.record.specs.Layout.{noField, layout, firstBroken}
 use Rattle.record.specs.declared.layout.Field.{Field}
 use Rattle.record.specs.declared.layout.Kind.the-variants.{Goods}
-use Rattle.entry.specs.Report.{mostMark}
-use Rattle.entry.specs.Stored.{keyWidth, orderedAt, markAt, slipKeyWidth, slipCopiesPlace, mostCopies, mostArrived}
+use Rattle.entry.specs.Report.{reportSound}
+use Rattle.entry.specs.Stored.{keyWidth, orderedAt, markAt, messageAt, expectedAt, slipKeyWidth, slipCopiesPlace, mostCopies, mostArrived}
 use Rattle.book.specs.Booking.{keyFields, articleFields, slipFields}
+use Rattle.save.specs.Form.{frontWidth}
 
 -- an address and its qualifier
 abbrev pub partyWidth : ℕ
@@ -44,11 +45,14 @@ unfoldable pub fieldsKept : List ℕ → ℕ → List ℕ → Bool
 fieldsKept fields at s =
     allOf Allowed s && (eqb (firstBroken (goodsFields fields) s) (length fields) && not (allOf Blank (slice at (at + nameWidth) s)))
 
--- a line: its key and article, Q from 1 to 9,999, the mark
+-- mark, message and expected date of a line, by its front, go together
+unfoldable pub reportKept : List ℕ → Bool
+reportKept front = reportSound (getD front markAt 0) (leAt front messageAt 2) (slice expectedAt frontWidth front)
+
+-- a line, by its front: its key and article, Q from 1 to 9,999, and what it says of its last report
 unfoldable pub lineKept : List ℕ → Bool
-lineKept body =
-    fieldsKept lineFields referenceAt (take orderedAt body)
-    && (within 1 mostCopies (leAt body orderedAt 2) && leb (getD body markAt 0) mostMark)
+lineKept front =
+    fieldsKept lineFields referenceAt (take orderedAt front) && (within 1 mostCopies (leAt front orderedAt 2) && reportKept front)
 
 -- a slip and its line are of one school and one supplier; a slip's key begins with the supplier, a line's with the school
 unfoldable pub partiesAgree : List ℕ → List ℕ → Bool

@@ -1,42 +1,35 @@
--- Loading a save into a lent book (RULES 9.4).
+-- Loading a save of either form into a lent book (RULES 9.4).
 use Prim.Native.Nat.{ℕ}
 use mathlib.Core.Bool.{_&&_}
 use mathlib.Core.List.{List, _++_}
-use lib.Dec.{eqb, leb}
-use lib.ListN.{getD, set}
+use lib.Dec.{leb}
+use lib.ListN.{set}
 use lib.Seq.{sets}
 use Rattle.cells.specs.Bytes.{pick}
 use Rattle.cells.specs.Little.{leBytes}
-use Rattle.entry.specs.Report.{noReport, messageUnknown, noMark, blankDate}
-use Rattle.entry.specs.Stored.{markAt}
 use Rattle.book.specs.Lent.{Lent, lineRoom, slipRoom, roomsSound}
+use Rattle.save.specs.Form.{slipsAt}
 use Rattle.save.specs.Entries.{arrivedOn}
-use Rattle.save.specs.Saved.{refusedNumber, joinedFrom, statedLines, statedSlips, lineIn, slipIn, isSave}
+use Rattle.save.specs.Saved.{refusedNumber, joinedFrom, statedLines, statedSlips, lineIn, slipIn, isSave, formIn}
 use Rattle.save.specs.declared.answer.Refused.{Refused}
 use Rattle.save.specs.declared.answer.Refused.the-variants.{Unsound, NoSave, TooSmall}
 use Rattle.save.specs.declared.answer.Loaded.{Loaded}
+use Rattle.save.specs.declared.form.Form.{Form}
 
--- message and expected date of a loaded line, by its mark, since a save drops them: without a mark no report has come, with one its message is unknown; eight blanks
-unfoldable pub unsavedMessage : ℕ → ℕ
-unsavedMessage mark = pick (eqb mark noMark) noReport messageUnknown
-
-unfoldable pub unsaved : ℕ → List ℕ
-unsaved mark = leBytes 2 (unsavedMessage mark) ++ blankDate
-
--- a line of the book from its body and its A: between them what was not saved
+-- a line of the book from its front and its A
 unfoldable pub lineFrom : List ℕ → ℕ → List ℕ
-lineFrom body arrived = body ++ (unsaved (getD body markAt 0) ++ leBytes 4 arrived)
+lineFrom front arrived = front ++ leBytes 4 arrived
 
 -- that of a save of n lines and m slips; A is the sum of its slips
-unfoldable pub loadedLine : List ℕ → ℕ → ℕ → ℕ → List ℕ
-loadedLine s n m i = lineFrom (lineIn s i) (arrivedOn (slipIn s n) m i)
+unfoldable pub loadedLine : Form → List ℕ → ℕ → ℕ → ℕ → List ℕ
+loadedLine form s n m i = lineFrom (lineIn form s i) (arrivedOn (slipIn s (slipsAt form n)) m i)
 
 -- the lent book with the counts and entries of the save in it
-unfoldable pub lentLoaded : List ℕ → ℕ → ℕ → Lent → Lent
-lentLoaded s n m b =
+unfoldable pub lentLoaded : Form → List ℕ → ℕ → ℕ → Lent → Lent
+lentLoaded form s n m b =
     record {
-      lines = sets (b .lines) 0 (joinedFrom (loadedLine s n m) n 0);
-      slips = sets (b .slips) 0 (joinedFrom (slipIn s n) m 0);
+      lines = sets (b .lines) 0 (joinedFrom (loadedLine form s n m) n 0);
+      slips = sets (b .slips) 0 (joinedFrom (slipIn s (slipsAt form n)) m 0);
       used = set (set (b .used) 0 n) 1 m;
     }
 
@@ -60,7 +53,7 @@ load s b =
     pick (roomsSound b)
     (pick (isSave s)
     (pick (leb (statedLines s) (lineRoom b) && leb (statedSlips s) (slipRoom b))
-    (outcome doneAs (lentLoaded s (statedLines s) (statedSlips s) b))
+    (outcome doneAs (lentLoaded (formIn s) s (statedLines s) (statedSlips s) b))
     (outcome (notLoaded TooSmall) b))
     (outcome (notLoaded NoSave) b))
     (outcome (notLoaded Unsound) b)

@@ -1,6 +1,6 @@
-// What saving and loading answer.
+// What saving, loading and moving a save answer.
 ghost use mathlib.Core.Path.{_≡_};
-ghost use Rattle.save.specs.Saved.{refusedNumber, notSaved};
+ghost use Rattle.save.specs.Saved.{refusedNumber, notSaved, savedAs};
 ghost use Rattle.save.specs.Load.{notLoaded};
 
 pub enum Refused {
@@ -10,6 +10,8 @@ pub enum Refused {
     NoSave,
     // The lent output or book is too small.
     TooSmall,
+    // A message has no place in the old form.
+    MessageLost,
 }
 
 // The answer number and place of document 01, and how long the save is.
@@ -34,10 +36,11 @@ pub fn refused_number(r: Refused) -> u64
         Refused::Unsound => 20,
         Refused::NoSave => 22,
         Refused::TooSmall => 23,
+        Refused::MessageLost => 28,
     }
 }
 
-// A refusal to save, with zeros for all other values.
+// A refusal to save or to move, with zeros for all other values.
 pub fn not_saved(r: Refused) -> Saved
     ensures { λ s. ⌜ s ≡ notSaved r ⌝ }
 {
@@ -45,6 +48,17 @@ pub fn not_saved(r: Refused) -> Saved
         answer: refused_number(r),
         place: 0,
         length: 0,
+    }
+}
+
+// Done, with the length of what was written.
+pub fn saved_as(length: usize) -> Saved
+    ensures { λ s. ⌜ s ≡ savedAs length ⌝ }
+{
+    Saved {
+        answer: 0,
+        place: 0,
+        length,
     }
 }
 

@@ -4,10 +4,16 @@ ghost use mathlib.Core.List.{[], _∷_};
 ghost use Prim.Native.Nat.{_+_, _*_, _≤_};
 ghost use lib.Dec.{eqb};
 ghost use lib.ListN.{length};
-ghost use Rattle.save.specs.Entries.{referenceAt, slipNumberAt, lineFields, goodsFields, fieldsKept, lineKept, partiesAgree, slipKept};
-ghost use Rattle.save.specs.Saved.{lineBodyWidth, slipBodyWidth, savedLineWidth, lineIn};
+ghost use Rattle.save.specs.Entries.{referenceAt, slipNumberAt, lineFields, goodsFields, fieldsKept, reportKept, lineKept, partiesAgree, slipKept};
+ghost use Rattle.save.specs.Form.{lineBodyWidth, frontOf, savedLineWidth, slipsAt};
+ghost use Rattle.save.specs.Saved.{slipBodyWidth, bodyIn, lineIn};
 ghost use Rattle.record.specs.Layout.{firstBroken};
 ghost use Rattle.book.specs.Booking.{slipFields};
+use crate::form::FRONT_WIDTH;
+use crate::form::Form;
+use crate::form::KIND_BYTE;
+use crate::form::body_width;
+use crate::form::line_width;
 use cells::little::get2;
 use cells::part;
 use cells::same;
@@ -22,6 +28,7 @@ use entry::key::SECOND_PARTY_AT;
 use entry::key::SECOND_QUALIFIER_AT;
 use entry::key::SLIP_NUMBER_AT;
 use entry::report::MOST_MARK;
+use entry::report::is_report_sound;
 use rules::article::is_article;
 use rules::class::Class;
 use rules::class::all_of;
@@ -32,6 +39,7 @@ use rules::class::of_class;
 use rules::rule::Texts;
 use rules::rule::is_day;
 use rules::rule::is_one_of;
+use stored::EXPECTED_AT;
 use stored::MARK_AT;
 use stored::MESSAGE_AT;
 use stored::MOST_COPIES;
@@ -40,13 +48,7 @@ use stored::SLIP_COPIES_AT;
 use stored::SLIP_KEY_WIDTH;
 use stored::SLIP_WIDTH;
 
-// A byte of kind and a body: a line's is the front of its entry up to its mark, so without message, expected date and A; a slip's its entry.
-pub const KIND_BYTE: usize = 1;
-
-pub const LINE_BODY_WIDTH: usize = MESSAGE_AT;
-
-pub const SAVED_LINE_WIDTH: usize = KIND_BYTE + LINE_BODY_WIDTH;
-
+// A byte of kind and a body, which is a slip's entry in the book.
 pub const SAVED_SLIP_WIDTH: usize = KIND_BYTE + SLIP_WIDTH;
 
 const POSITION_WIDTH: usize = 4;
@@ -103,16 +105,34 @@ fn is_slip_key(key: &[u8]) -> bool
         & !all_of(Class::Blank, slip_number)
 }
 
+// Whether mark, message and expected date of a line go together; in the old form there is the mark alone.
+fn is_report_kept(form: Form, body: &[u8]) -> bool
+    requires { ⌜ length (now body) ≡ lineBodyWidth form ⌝ }
+    ensures { λ r. ⌜ r ≡ reportKept (frontOf form (now (body .entry))) ⌝ }
+{
+    let mark = body[MARK_AT];
+    match form {
+        Form::Old => mark <= MOST_MARK,
+        Form::New => {
+            is_report_sound(
+                mark,
+                get2(body, MESSAGE_AT),
+                part(body, EXPECTED_AT, FRONT_WIDTH),
+            )
+        }
+    }
+}
+
 // Whether a line of a save keeps the rules.
-pub fn is_line_kept(body: &[u8]) -> bool
-    requires { ⌜ length (now body) ≡ lineBodyWidth ⌝ }
-    ensures { λ r. ⌜ r ≡ lineKept (now (body .entry)) ⌝ }
+pub fn is_line_kept(form: Form, body: &[u8]) -> bool
+    requires { ⌜ length (now body) ≡ lineBodyWidth form ⌝ }
+    ensures { λ r. ⌜ r ≡ lineKept (frontOf form (now (body .entry))) ⌝ }
 {
     if !is_line_named(part(body, 0, ORDERED_AT)) {
         return false;
     }
     let ordered = get2(body, ORDERED_AT);
-    ((1 <= ordered) & (ordered <= MOST_COPIES)) & (body[MARK_AT] <= MOST_MARK)
+    ((1 <= ordered) & (ordered <= MOST_COPIES)) & is_report_kept(form, body)
 }
 
 // Whether a slip has the school and the supplier of a line.
@@ -129,20 +149,20 @@ fn do_parties_agree(slip: &[u8], line: &[u8]) -> bool
         )
 }
 
-// The body of a line in a save.
-pub fn line_in(s: &[u8], i: usize) -> &[u8]
-    requires { ⌜ savedLineWidth * i + savedLineWidth ≤ length (now s) ⌝ }
-    ensures { λ r. ⌜ now r ≡ lineIn (now (s .entry)) i ⌝ }
+// The body of a line in a save of a form.
+pub fn body_in(s: &[u8], form: Form, i: usize) -> &[u8]
+    requires { ⌜ savedLineWidth form * i + savedLineWidth form ≤ length (now s) ⌝ }
+    ensures { λ r. ⌜ now r ≡ bodyIn form (now (s .entry)) i ⌝ }
 {
-    let at = SAVED_LINE_WIDTH * i + KIND_BYTE;
-    let end = at + LINE_BODY_WIDTH;
+    let at = line_width(form) * i + KIND_BYTE;
+    let end = at + body_width(form);
     &s[at..end]
 }
 
 // Whether a slip of a save of n lines keeps the rules.
-pub fn is_slip_kept(s: &[u8], n: usize, body: &[u8]) -> bool
-    requires { ⌜ (savedLineWidth * n ≤ length (now s)) × (length (now body) ≡ slipBodyWidth) ⌝ }
-    ensures { λ r. ⌜ r ≡ slipKept n (lineIn (now (s .entry))) (now (body .entry)) ⌝ }
+pub fn is_slip_kept(s: &[u8], form: Form, n: usize, body: &[u8]) -> bool
+    requires { ⌜ (slipsAt form n ≤ length (now s)) × (length (now body) ≡ slipBodyWidth) ⌝ }
+    ensures { λ r. ⌜ r ≡ slipKept n (lineIn form (now (s .entry))) (now (body .entry)) ⌝ }
 {
     if !is_slip_key(part(body, 0, SLIP_KEY_WIDTH)) {
         return false;
@@ -155,5 +175,5 @@ pub fn is_slip_kept(s: &[u8], n: usize, body: &[u8]) -> bool
     if n <= i {
         return false;
     }
-    do_parties_agree(body, line_in(s, i))
+    do_parties_agree(body, body_in(s, form, i))
 }

@@ -1,3 +1,4 @@
-// The saved book: what saving and loading answer, and bytes judged as a save.
+// The saved book: what saving, loading and moving answer, the two forms, and entries judged by their bodies.
 pub mod answer;
 pub mod entries;
+pub mod form;

@@ -1,5 +1,6 @@
 -- `save::entries::is_slip_kept` meets its contract, test by test: its key, its copies, its line, whose parties it has.
-use mathlib.Core.Path.{_≡_, _∙_, ap}
+use mathlib.Core.Path.{_≡_, _∙_, ap, sym}
+use native.Mathlib.Omega.{arith}
 use borrow.Author.Tests.{lt-ltb, le-ltb}
 use lib.ListN.{take}
 use Rattle.cells.specs.Bytes.{within}
@@ -7,6 +8,10 @@ use Rattle.cells.proofs.Bools.{is-not, is-so}
 use Rattle.entry.specs.Stored.{slipKeyWidth, mostCopies}
 use Rattle.book.specs.Booking.{slipFields}
 use Rattle.save.specs.Entries.{slipNumberAt, fieldsKept, lineIndex, slipCopies, slipKept}
+use Rattle.save.specs.Form.{frontOf}
+use Rattle.save.specs.Saved.{bodyIn, lineIn}
+use Rattle.save.proofs.Bodies.{line-before, body-long}
+use Rattle.save.proofs.Fronts.{front-kept, parties-same}
 use borrow.Author.Needs.{needs}
 use Rattle.save.proofs.entries.is_slip_kept.Statement.{statement}
 use Rattle.save.proofs.entries.is_slip_kept.Tie as tie
@@ -60,26 +65,33 @@ returns-3 c =
       le-ltb _ _ (c .if3 .taken),
     )
 
-line-in-requires : tie.Need-line-in-requires
-line-in-requires c κs = search needs
+body-in-requires : tie.Need-body-in-requires
+body-in-requires c κs =
+    let a = c .before .before .before .before .before .before .before .before .before in
+    omega (arith, a .pre .0, line-before (a .args .form) (c .before .get22 .result) (a .args .n) (c .if3 .left))
 
 do-parties-agree-requires : tie.Need-do-parties-agree-requires
 do-parties-agree-requires c κs = search needs
 
 returns-4 : tie.Need-returns-4
-unfolding slipKept
+unfolding slipKept lineIn
 returns-4 c =
     let f = c .before .before in
     let e = f .before .before in
     let d = e .before .before in
+    let a = d .before .before .before .before .before in
+    let i = f .before .get22 .result in
+    let body = bodyIn (a .args .form) (a .args .s .now) i in
+    let long = body-long (a .args .form) (a .args .s .now) i (omega (arith, a .pre .0, line-before (a .args .form) i (a .args .n) (f .if3 .left))) in
     rw (
       is-so (key-here (d .before)) (d .if1 .left),
       is-so (copies-here (e .before)) (e .if2 .left),
       ← index-here (f .before),
       lt-ltb _ _ (f .if3 .left),
       c .do-parties-agree .ensures,
-      c .before .line-in .ensures,
+      c .before .body-in .ensures,
     )
+    (sym (parties-same (a .args .body .now) (frontOf (a .args .form) body) body (front-kept (a .args .form) body long)))
 
 pub is-slip-kept-spec : {M : Type 1} → statement M
 is-slip-kept-spec =
@@ -92,6 +104,6 @@ is-slip-kept-spec =
     returns-2
     get2-requires-2
     returns-3
-    line-in-requires
+    body-in-requires
     do-parties-agree-requires
     returns-4)
