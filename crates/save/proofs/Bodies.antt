@@ -11,8 +11,9 @@ use Rattle.entry.specs.Stored.{keyWidth, messageAt, slipKeyWidth}
 use Rattle.save.specs.Form.{frontWidth, lineBodyWidth, frontOf, savedLineWidth, slipsAt}
 use Rattle.save.specs.Saved.{slipBodyWidth, savedSlipWidth, bodyIn, lineIn, slipIn}
 use Rattle.save.specs.declared.form.Form.{Form}
+use Rattle.save.specs.declared.form.Form.the-variants.{Old, New}
 use Rattle.cells.proofs.Within.{number-within}
-use Rattle.save.proofs.Fronts.{width-least, width-most, front-kept, front-wide, take-same}
+use Rattle.save.proofs.Fronts.{front-kept, front-wide, take-same}
 
 -- an entry of a width before the n-th ends where that begins, at the latest
 pub entry-before : (w i n : ℕ) → i < n → w * i + w ≤ w * n
@@ -22,6 +23,12 @@ entry-before w i n h = omega (arith, mul-suc w i, mul-le-mul-left w h)
 pub line-before : (form : Form) (i n : ℕ) → i < n → savedLineWidth form * i + savedLineWidth form ≤ slipsAt form n
 unfolding slipsAt
 line-before form i n h = entry-before (savedLineWidth form) i n h
+
+-- n lines are at most so many bytes, in either form
+pub slips-most : (form : Form) (n : ℕ) → slipsAt form n ≤ (1 + frontWidth) * n
+unfolding slipsAt savedLineWidth lineBodyWidth
+slips-most Old n = omega arith
+slips-most New n = omega arith
 
 -- an entry is one byte longer than its body
 pub entry-wide : (form : Form) → savedLineWidth form ≡ 1 + lineBodyWidth form

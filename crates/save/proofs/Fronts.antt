@@ -133,6 +133,13 @@ module _ (form : Form) (body : List ℕ) (wide : length body ≡ lineBodyWidth f
       go Old w = unfold frontOf lineBodyWidth in length-append body (unsaved (getD body markAt 0)) ∙ rw (w, unsaved-wide (getD body markAt 0)) refl
       go New w = unfold frontOf lineBodyWidth in w
 
+  -- of it the old form has so much as of the body, and the new form all
+  pub old-part : (to : Form) → to ≡ Old → take (lineBodyWidth to) (frontOf form body) ≡ take messageAt body
+  old-part to e = rw (old-width to e) front-kept
+
+  pub new-part : (to : Form) → to ≡ New → take (lineBodyWidth to) (frontOf form body) ≡ frontOf form body
+  new-part to e = rw (new-width to e) (take-all frontWidth (frontOf form body) (omega (arith, front-wide)))
+
 -- a body of the old form says a report that goes together with the mark where that is one of the three
 pub old-report : (body : List ℕ) → length body ≡ messageAt → reportKept (frontOf Old body) ≡ leb (getD body markAt 0) mostMark
 unfolding reportKept frontOf lineBodyWidth

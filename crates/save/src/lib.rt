@@ -2,3 +2,4 @@
 pub mod answer;
 pub mod entries;
 pub mod form;
+pub mod lines;

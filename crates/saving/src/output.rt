@@ -5,14 +5,17 @@ ghost use Prim.Native.Nat.{_+_, _*_, _≤_};
 ghost use lib.ListN.{length};
 ghost use lib.Seq.{sets};
 ghost use Rattle.entry.specs.Stored.{lineWidth, slipWidth};
-ghost use Rattle.save.specs.Saved.{savedLineWidth, savedSlipWidth, endWidth, lineEntries, slipEntries, endEntry};
+ghost use Rattle.save.specs.Form.{slipsAt};
+ghost use Rattle.save.specs.Saved.{savedSlipWidth, endWidth, lineFrontAt, slipBodyAt, lineEntries, slipEntries, endEntry};
+ghost use Rattle.save.specs.declared.form.Form.the-variants.{New};
 use cells::little::put2;
 use cells::paste_at;
-use save::entries::LINE_BODY_WIDTH;
-use save::entries::SAVED_LINE_WIDTH;
 use save::entries::SAVED_SLIP_WIDTH;
+use save::form::FRONT_WIDTH;
+use save::form::Form;
+use save::form::KIND_BYTE;
+use save::lines::put_line;
 use saved::END_KIND;
-use saved::LINE_KIND;
 use saved::SLIP_KIND;
 use stored::LINE_WIDTH;
 use stored::SLIP_WIDTH;
@@ -26,17 +29,20 @@ fn put_entry(out: &mut [u8], at: usize, kind: u8, body: &[u8])
     paste_at(out, at + 1, body);
 }
 
-// The used lines, from the front on: a byte of kind, then the line up to its mark.
+// A byte of kind and a line's front, as saving writes it.
+const NEW_LINE_WIDTH: usize = KIND_BYTE + FRONT_WIDTH;
+
+// The used lines, from the front on, in the new form.
 pub fn put_lines(out: &mut [u8], lines: &[u8], n: usize)
-    requires { ⌜ (lineWidth * n ≤ length (now lines)) × (savedLineWidth * n ≤ length (now out)) ⌝ }
-    ensures { λ _. ⌜ now (out .exit) ≡ sets (now (out .entry)) 0 (lineEntries (now (lines .entry)) n) ⌝ }
+    requires { ⌜ (lineWidth * n ≤ length (now lines)) × (slipsAt New n ≤ length (now out)) ⌝ }
+    ensures { λ _. ⌜ now (out .exit) ≡ sets (now (out .entry)) 0 (lineEntries New (lineFrontAt (now (lines .entry))) n) ⌝ }
 {
     let mut i: usize = 0;
     while i < n {
-        let at = SAVED_LINE_WIDTH * i;
+        let at = NEW_LINE_WIDTH * i;
         let from = LINE_WIDTH * i;
-        let end = from + LINE_BODY_WIDTH;
-        put_entry(out, at, LINE_KIND, &lines[from..end]);
+        let end = from + FRONT_WIDTH;
+        put_line(out, at, Form::New, Form::New, &lines[from..end]);
         i += 1;
     }
 }
@@ -44,7 +50,7 @@ pub fn put_lines(out: &mut [u8], lines: &[u8], n: usize)
 // The used slips, from a place on: a byte of kind, then the slip.
 pub fn put_slips(out: &mut [u8], start: usize, slips: &[u8], m: usize)
     requires { ⌜ (slipWidth * m ≤ length (now slips)) × (start + savedSlipWidth * m ≤ length (now out)) ⌝ }
-    ensures { λ _. ⌜ now (out .exit) ≡ sets (now (out .entry)) start (slipEntries (now (slips .entry)) m) ⌝ }
+    ensures { λ _. ⌜ now (out .exit) ≡ sets (now (out .entry)) start (slipEntries (slipBodyAt (now (slips .entry))) m) ⌝ }
 {
     let mut j: usize = 0;
     while j < m {

@@ -1,13 +1,11 @@
--- `save::form::put_front` meets its contract, form by form: behind a body of the old form stands what was not saved.
+-- `save::lines::put_front` meets its contract, form by form: behind a body of the old form stands what was not saved.
 use mathlib.Core.Path.{_≡_, _∙_}
 use native.Mathlib.Omega.{arith}
 use Rattle.save.specs.Form.{frontOf}
 use Rattle.save.proofs.Fronts.{width-least, width-most, old-width, old-stored}
 use borrow.Author.Needs.{needs}
-use Rattle.save.proofs.form.put_front.Statement.{statement}
-use Rattle.save.proofs.form.put_front.Tie as tie
-use Rattle.cells.proofs.paste_at.Reads as paste-at-reads
-use Rattle.save.proofs.form.put_unsaved.Reads as put-unsaved-reads
+use Rattle.save.proofs.lines.put_front.Statement.{statement}
+use Rattle.save.proofs.lines.put_front.Tie as tie
 
 paste-at-requires : tie.Need-paste-at-requires
 paste-at-requires c κs =

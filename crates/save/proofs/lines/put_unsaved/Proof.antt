@@ -1,12 +1,9 @@
--- `save::form::put_unsaved` meets its contract: message and blanks are one run.
+-- `save::lines::put_unsaved` meets its contract: message and blanks are one run.
 use mathlib.Core.Path.{_∙_}
 use Rattle.save.proofs.Fronts.{unsaved-stored}
 use borrow.Author.Needs.{needs}
-use Rattle.save.proofs.form.put_unsaved.Statement.{statement}
-use Rattle.save.proofs.form.put_unsaved.Tie as tie
-use Rattle.cells.proofs.little.put2.Reads as put2-reads
-use Rattle.cells.proofs.paste_at.Reads as paste-at-reads
-use Rattle.save.proofs.form.unsaved_message.Reads as unsaved-message-reads
+use Rattle.save.proofs.lines.put_unsaved.Statement.{statement}
+use Rattle.save.proofs.lines.put_unsaved.Tie as tie
 
 unsaved-message-requires : tie.Need-unsaved-message-requires
 unsaved-message-requires c κs = search needs
