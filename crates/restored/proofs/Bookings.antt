@@ -16,7 +16,8 @@ use Rattle.book.proofs.Fields.{order-key, order-named, slip-key-width, order-co
 use Rattle.balance.specs.Demand3.{fresh, giveAll}
 use Rattle.balance.proofs.Followed.{FitPassed, fit-passed, order-fits, delivery-fits, report-fits}
 use Rattle.save.specs.Entries.{linesKept, slipsKept, sumsKept, entriesKept}
-use Rattle.save.specs.Saved.{savedWidth, save}
+use Rattle.save.specs.Saved.{savedWidth, savedAs, save}
+use Rattle.save.specs.declared.form.Form.the-variants.{New}
 use Rattle.restored.specs.Restored.{Orderly}
 use Rattle.restored.specs.Bookings.{bookOf, BookingsOrderly, BookSurvives, StaysOrderly}
 use Rattle.restored.proofs.Keys.{order-named-kept, slip-key-kept, goods-parties}
@@ -76,9 +77,9 @@ pub bookings-orderly : BookingsOrderly
 bookings-orderly lines slips records e = stays-orderly (fresh lines slips) records (fresh-orderly lines slips e) refl .0
 
 -- a save of a sound book is done where the output is large enough
-save-done : (b : Lent) (out : List ℕ) → sound b ≡ true → savedWidth (usedLines b) (usedSlips b) ≤ length out → save b out .said .answer ≡ 0
-unfolding save
-save-done b out e h = rw (e, le-leb (savedWidth (usedLines b) (usedSlips b)) (length out) h)
+save-done : (b : Lent) (out : List ℕ) → sound b ≡ true → savedWidth New (usedLines b) (usedSlips b) ≤ length out → save b out .said .answer ≡ 0
+unfolding save savedAs
+save-done b out e h = rw (e, le-leb (savedWidth New (usedLines b) (usedSlips b)) (length out) h)
 
 -- the save of a book made by bookings loads, and gives the same book
 pub book-survives : BookSurvives

@@ -1,38 +1,17 @@
--- Lists cut: a part past a front, a front stored, and numbers with their bytes.
-use mathlib.Core.Path.{_≡_, _∙_, ap, sym, refl}
+-- Lists cut: a part and what follows it, a front stored, and numbers with their bytes.
+use mathlib.Core.Path.{_≡_, _∙_, ap, sym}
 use mathlib.Core.List.{List, _++_}
 use Prim.Native.Nat.{ℕ, zero, suc, _+_, _*_, _/_, _%_, _≤_, _<_}
-use native.Mathlib.Nat.{zero-add, add-zero, add-assoc}
+use native.Mathlib.Nat.{zero-add, add-zero}
 use native.Mathlib.Omega.{arith}
 use lib.Dec.{ltb}
 use lib.ListN.{length, getD, take, drop, take-append-drop}
-use lib.Seq.{slice, slice-cons, sets, sets-eq, drop-drop, take-append-add, drop-append-add, getD-append-add, slice-empty, take-at}
+use lib.Seq.{slice, slice-cons, sets, sets-eq, drop-drop, slice-empty}
 use borrow.Author.Tests.{ltb-true}
 use Rattle.cells.specs.Little.{leAt, leBytes}
 use Rattle.cells.proofs.Parts.{take-from}
-use Rattle.cells.proofs.Stores.{le-ext}
 use Rattle.rules.proofs.Runs.{all-at}
-use Rattle.cells.proofs.Within.{number-within}
 use Rattle.restored.specs.Restored.{Bytes}
-
--- past a front
-module _ (xs ys : List ℕ) (w : ℕ) (wide : length xs ≡ w) where
-  -- a byte
-  pub byte-past : (x : ℕ) → getD (xs ++ ys) (w + x) 0 ≡ getD ys x 0
-  byte-past x = rw (← wide) (getD-append-add xs ys x 0)
-
-  -- a number
-  pub number-past : (x n : ℕ) → leAt (xs ++ ys) (w + x) n ≡ leAt ys x n
-  number-past x n = le-ext (xs ++ ys) ys (w + x) x n (λ k h. rw (add-assoc w x k) (byte-past (x + k)))
-
-  -- a part
-  pub part-past : (x y : ℕ) → slice (w + x) (w + y) (xs ++ ys) ≡ slice x y ys
-  part-past x y = rw (← wide) (ap (drop (length xs + x)) (take-append-add xs ys y) ∙ drop-append-add xs (take y ys) x)
-
--- a number that is a front
-pub number-front : (xs ys : List ℕ) (w : ℕ) → length xs ≡ w → leAt (xs ++ ys) 0 w ≡ leAt xs 0 w
-number-front xs ys w e =
-    sym (number-within (xs ++ ys) 0 w 0 w (omega arith)) ∙ ap (λ (l : List ℕ). leAt l 0 w) (take-at xs ys w e)
 
 -- a part and what follows it
 pub part-and-rest : (s : List ℕ) (a w : ℕ) → slice a (a + w) s ++ drop (a + w) s ≡ drop a s
@@ -54,9 +33,3 @@ bytes-back s h (suc w) p r =
     let high : (x + 256 * n) / 256 ≡ n = omega arith in
     let e : p + suc w ≡ suc p + w = omega arith in
     rw (low, high, bytes-back s h w (suc p) (omega arith), slice-cons p (p + suc w) s 0 (omega arith) r, e)
-
--- a number is so many bytes
-pub bytes-wide : (w n : ℕ) → length (leBytes w n) ≡ w
-unfolding leBytes
-bytes-wide zero n = refl
-bytes-wide (suc w) n = ap suc (bytes-wide w (n / 256))

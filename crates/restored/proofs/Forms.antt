@@ -1,4 +1,4 @@
--- The saved form of any bodies: where its entries stand, what its end states, and that a valid save is one.
+-- The bytes of a save in either form: where its entries stand, what its end states, that it is valid where its lines and slips are; and that a valid save, or one that was moved, is the form of its own lines and slips.
 use mathlib.Core.Path.{_≡_, _∙_, ap, ap₂, sym, refl}
 use mathlib.Core.Bool.{Bool, true, _&&_}
 use mathlib.Core.List.{List, [], _∷_, _++_}
@@ -7,8 +7,8 @@ use native.Mathlib.Nat.{zero-add, add-zero, add-assoc}
 use native.Mathlib.Numerals.{add-one}
 use native.Mathlib.Omega.{arith}
 use lib.Dec.{eqb, leb}
-use lib.ListN.{length, getD, drop, length-append}
-use lib.Seq.{slice, drop-cons}
+use lib.ListN.{length, getD, take, drop, length-append}
+use lib.Seq.{slice, drop-cons, drop-at, length-take-le}
 use borrow.Author.Tests.{eqb-true, eq-eqb, le-leb}
 use Rattle.cells.specs.Little.{leAt, leBytes}
 use Rattle.cells.specs.Search.{allFrom}
@@ -16,19 +16,20 @@ use Rattle.cells.proofs.Bools.{and-left, and-right}
 use Rattle.cells.proofs.Numbers.{le-back}
 use Rattle.cells.proofs.Parts.{to-end}
 use Rattle.cells.proofs.Searches.{all-at, each-place}
+use Rattle.save.specs.Form.{frontWidth, lineKind, lineBodyWidth, frontOf, savedLineWidth, slipsAt}
 use Rattle.save.specs.Entries.{entriesKept}
-use Rattle.save.specs.Saved.{lineKind, slipKind, endKind, savedLineWidth, savedSlipWidth, joinedFrom, endEntry, savedWidth, statedLines, statedSlips, lineIn, slipIn, allOfKind, inForm, isSave}
+use Rattle.save.specs.Saved.{slipKind, endKind, slipBodyWidth, savedSlipWidth, endWidth, joinedFrom, lineEntries, slipEntries, endEntry, formed, savedWidth, statedLines, statedSlips, bodyIn, lineIn, slipIn, allOfKind, inForm, isSaveOf}
+use Rattle.save.specs.Moves.{moved}
+use Rattle.save.specs.declared.form.Form.{Form}
+use Rattle.save.proofs.Bodies.{line-before, body-long}
+use Rattle.save.proofs.Fronts.{byte-past, number-past, part-past, number-front, bytes-wide, width-most, front-body}
+use Rattle.save.proofs.Views.{entries-same}
 use Rattle.restored.specs.Restored.{Bytes}
-use Rattle.restored.proofs.Cuts.{byte-past, number-past, number-front, part-past, part-and-rest, bytes-back, bytes-wide}
+use Rattle.restored.proofs.Cuts.{part-and-rest, bytes-back}
 use Rattle.restored.proofs.Joined.{joined-same, kinded-length, kinded-kind, kinded-body, kinded-cut}
-use Rattle.restored.proofs.Views.{entries-same}
-
--- n lines and m slips in the saved form
-unfoldable pub formed : ℕ → ℕ → (ℕ → List ℕ) → (ℕ → List ℕ) → List ℕ
-formed n m line slip = joinedFrom (λ i. lineKind ∷ line i) n 0 ++ (joinedFrom (λ j. slipKind ∷ slip j) m 0 ++ endEntry n m)
 
 -- the end is five bytes
-end-wide : (n m : ℕ) → length (endEntry n m) ≡ 5
+end-wide : (n m : ℕ) → length (endEntry n m) ≡ endWidth
 unfolding endEntry leBytes
 end-wide n m = refl
 
@@ -44,165 +45,230 @@ unfolding endEntry
 end-slips n m h =
     number-past (endKind ∷ []) (leBytes 2 n ++ leBytes 2 m) 1 refl 2 2 ∙ number-past (leBytes 2 n) (leBytes 2 m) 2 (bytes-wide 2 n) 0 2 ∙ le-back 2 m h
 
--- equal bodies have one saved form
-pub formed-same : (n m : ℕ) (line line′ slip slip′ : ℕ → List ℕ) → ((i : ℕ) → i < n → line i ≡ line′ i) → ((j : ℕ) → j < m → slip j ≡ slip′ j)
-    → formed n m line slip ≡ formed n m line′ slip′
-unfolding formed
-formed-same n m line line′ slip slip′ h k =
+-- an entry of a line is one byte longer than its body
+entry-one : (form : Form) → savedLineWidth form ≡ suc (lineBodyWidth form)
+unfolding savedLineWidth
+entry-one form = omega arith
+
+-- equal lines have one form
+lines-formed : (form : Form) (n : ℕ) (line line′ : ℕ → List ℕ) → ((i : ℕ) → i < n → line i ≡ line′ i) → lineEntries form line n ≡ lineEntries form line′ n
+unfolding lineEntries
+lines-formed form n line line′ h =
+    joined-same (λ i. lineKind form ∷ take (lineBodyWidth form) (line i)) (λ i. lineKind form ∷ take (lineBodyWidth form) (line′ i)) n 0
+    (λ i a c. ap (λ (l : List ℕ). lineKind form ∷ take (lineBodyWidth form) l) (h i (omega arith)))
+
+-- so equal lines and slips have
+pub formed-same : (form : Form) (n m : ℕ) (line line′ slip slip′ : ℕ → List ℕ) → ((i : ℕ) → i < n → line i ≡ line′ i) → ((j : ℕ) → j < m → slip j ≡ slip′ j)
+    → formed form n m line slip ≡ formed form n m line′ slip′
+unfolding formed slipEntries
+formed-same form n m line line′ slip slip′ h k =
     ap₂ (λ (x y : List ℕ). x ++ (y ++ endEntry n m))
-    (joined-same (λ i. lineKind ∷ line i) (λ i. lineKind ∷ line′ i) n 0 (λ i a c. ap (λ (l : List ℕ). lineKind ∷ l) (h i (omega arith))))
+    (lines-formed form n line line′ h)
     (joined-same (λ j. slipKind ∷ slip j) (λ j. slipKind ∷ slip′ j) m 0 (λ j a c. ap (λ (l : List ℕ). slipKind ∷ l) (k j (omega arith))))
 
--- bodies of their widths
-module _ (n m : ℕ) (line slip : ℕ → List ℕ) (lineWide : (i : ℕ) → i < n → length (line i) ≡ 52) (slipWide : (j : ℕ) → j < m → length (slip j) ≡ 50) where
-  abbrev lineRun : List ℕ
-  lineRun = joinedFrom (λ i. lineKind ∷ line i) n 0
+-- lines and slips of their widths
+module _ (form : Form) (n m : ℕ) (line slip : ℕ → List ℕ) (lineWide : (i : ℕ) → i < n → length (line i) ≡ frontWidth) (slipWide : (j : ℕ) → j < m → length (slip j) ≡ slipBodyWidth) where
+  abbrev s : List ℕ
+  s = formed form n m line slip
 
-  abbrev slipRun : List ℕ
-  slipRun = joinedFrom (λ j. slipKind ∷ slip j) m 0
+  abbrev at : ℕ
+  at = slipsAt form n
+
+  abbrev body : ℕ → List ℕ
+  body i = take (lineBodyWidth form) (line i)
+
+  abbrev rest : List ℕ
+  rest = slipEntries slip m ++ endEntry n m
+
+  -- a body is of its width
+  body-wide : (i : ℕ) → i < n → length (body i) ≡ lineBodyWidth form
+  body-wide i a = length-take-le (lineBodyWidth form) (line i) (omega (arith, lineWide i a, width-most form))
 
   -- the lines are so long
-  line-run : length lineRun ≡ 53 * n
-  line-run = kinded-length lineKind 52 n line lineWide
+  line-run : length (lineEntries form line n) ≡ at
+  unfolding lineEntries slipsAt
+  line-run = kinded-length (lineKind form) (lineBodyWidth form) (savedLineWidth form) (entry-one form) n body body-wide
 
   -- the slips are so long
-  slip-run : length slipRun ≡ 51 * m
-  slip-run = kinded-length slipKind 50 m slip slipWide
+  slip-run : length (slipEntries slip m) ≡ savedSlipWidth * m
+  unfolding slipEntries
+  slip-run = kinded-length slipKind slipBodyWidth savedSlipWidth refl m slip slipWide
 
-  -- the form is so long
-  pub formed-length : length (formed n m line slip) ≡ savedWidth n m
+  -- the whole is so long
+  pub formed-length : length s ≡ savedWidth form n m
   unfolding formed savedWidth
   formed-length =
-      length-append lineRun (slipRun ++ endEntry n m)
-      ∙ rw (line-run, length-append slipRun (endEntry n m), slip-run, end-wide n m) (omega arith)
+      length-append (lineEntries form line n) rest
+      ∙ rw (line-run, length-append (slipEntries slip m) (endEntry n m), slip-run, end-wide n m) (omega arith)
 
   -- the bodies of lines stand in their entries
-  pub formed-line : (i : ℕ) → i < n → lineIn (formed n m line slip) i ≡ line i
-  unfolding formed lineIn
-  formed-line i a = kinded-body lineKind 52 n line lineWide (slipRun ++ endEntry n m) i a
+  formed-body : (i : ℕ) → i < n → bodyIn form s i ≡ body i
+  unfolding formed lineEntries bodyIn
+  formed-body i a = kinded-body (lineKind form) (lineBodyWidth form) (savedLineWidth form) (entry-one form) n body body-wide rest i a
 
   -- and those of slips
-  pub formed-slip : (j : ℕ) → j < m → slipIn (formed n m line slip) n j ≡ slip j
-  unfolding formed slipIn
+  pub formed-slip : (j : ℕ) → j < m → slipIn s at j ≡ slip j
+  unfolding formed slipIn slipEntries
   formed-slip j a =
-      rw (add-assoc (53 * n) (51 * j) 1, add-assoc (53 * n) (51 * j) 51)
-      (part-past lineRun (slipRun ++ endEntry n m) (53 * n) line-run (51 * j + 1) (51 * j + 51) ∙ kinded-body slipKind 50 m slip slipWide (endEntry n m) j a)
+      rw (add-assoc at (savedSlipWidth * j) 1, add-assoc at (savedSlipWidth * j) savedSlipWidth)
+      (part-past (lineEntries form line n) rest at line-run (savedSlipWidth * j + 1) (savedSlipWidth * j + savedSlipWidth)
+      ∙ kinded-body slipKind slipBodyWidth savedSlipWidth refl m slip slipWide (endEntry n m) j a)
 
   -- a number of the end
-  from-end : (x w : ℕ) → leAt (formed n m line slip) (53 * n + (51 * m + x)) w ≡ leAt (endEntry n m) x w
+  from-end : (x w : ℕ) → leAt s (at + (savedSlipWidth * m + x)) w ≡ leAt (endEntry n m) x w
   unfolding formed
   from-end x w =
-      number-past lineRun (slipRun ++ endEntry n m) (53 * n) line-run (51 * m + x) w ∙ number-past slipRun (endEntry n m) (51 * m) slip-run x w
+      number-past (lineEntries form line n) rest at line-run (savedSlipWidth * m + x) w
+      ∙ number-past (slipEntries slip m) (endEntry n m) (savedSlipWidth * m) slip-run x w
 
   -- it states the lines
-  pub formed-lines : n < 65536 → statedLines (formed n m line slip) ≡ n
+  pub formed-lines : n < 65536 → statedLines s ≡ n
   unfolding statedLines savedWidth
   formed-lines h =
-      let e : length (formed n m line slip) - 4 ≡ 53 * n + (51 * m + 1) = omega (arith, formed-length) in
+      let e : length s - 4 ≡ at + (savedSlipWidth * m + 1) = omega (arith, formed-length) in
       rw e (from-end 1 2 ∙ end-lines n m h)
 
   -- it states the slips
-  pub formed-slips : m < 65536 → statedSlips (formed n m line slip) ≡ m
+  pub formed-slips : m < 65536 → statedSlips s ≡ m
   unfolding statedSlips savedWidth
   formed-slips h =
-      let e : length (formed n m line slip) - 2 ≡ 53 * n + (51 * m + 3) = omega (arith, formed-length) in
+      let e : length s - 2 ≡ at + (savedSlipWidth * m + 3) = omega (arith, formed-length) in
       rw e (from-end 3 2 ∙ end-slips n m h)
 
   -- each line begins with its kind
-  line-kinds : allOfKind lineKind savedLineWidth 0 n (formed n m line slip) ≡ true
-  unfolding allOfKind formed
+  line-kinds : allOfKind (lineKind form) (savedLineWidth form) 0 n s ≡ true
+  unfolding allOfKind formed lineEntries
   line-kinds =
-      each-place (λ i. eqb (getD (formed n m line slip) (0 + 53 * i) 0) lineKind) n 0
-      (λ i a c. rw (zero-add (53 * i)) (eq-eqb _ _ (kinded-kind lineKind 52 n line lineWide (slipRun ++ endEntry n m) i (omega arith))))
+      each-place (λ i. eqb (getD s (0 + savedLineWidth form * i) 0) (lineKind form)) n 0
+      (λ i a c. rw (zero-add (savedLineWidth form * i)) (eq-eqb _ _ (kinded-kind (lineKind form) (lineBodyWidth form) (savedLineWidth form) (entry-one form) n body body-wide rest i (omega arith))))
 
   -- each slip
-  slip-kinds : allOfKind slipKind savedSlipWidth (53 * n) m (formed n m line slip) ≡ true
-  unfolding allOfKind formed
+  slip-kinds : allOfKind slipKind savedSlipWidth at m s ≡ true
+  unfolding allOfKind formed slipEntries
   slip-kinds =
-      each-place (λ j. eqb (getD (formed n m line slip) (53 * n + 51 * j) 0) slipKind) m 0
-      (λ j a c. eq-eqb _ _ (byte-past lineRun (slipRun ++ endEntry n m) (53 * n) line-run (51 * j) ∙ kinded-kind slipKind 50 m slip slipWide (endEntry n m) j (omega arith)))
+      each-place (λ j. eqb (getD s (at + savedSlipWidth * j) 0) slipKind) m 0
+      (λ j a c. eq-eqb _ _ (byte-past (lineEntries form line n) rest at line-run (savedSlipWidth * j) ∙ kinded-kind slipKind slipBodyWidth savedSlipWidth refl m slip slipWide (endEntry n m) j (omega arith)))
 
   -- the end
-  end-kind : getD (formed n m line slip) (53 * n + 51 * m) 0 ≡ endKind
+  end-kind : getD s (at + savedSlipWidth * m) 0 ≡ endKind
   unfolding formed endEntry
   end-kind =
-      byte-past lineRun (slipRun ++ endEntry n m) (53 * n) line-run (51 * m)
-      ∙ ap (λ (x : ℕ). getD (slipRun ++ endEntry n m) x 0) (sym (add-zero (51 * m)))
-      ∙ byte-past slipRun (endEntry n m) (51 * m) slip-run 0
+      byte-past (lineEntries form line n) rest at line-run (savedSlipWidth * m)
+      ∙ ap (λ (x : ℕ). getD rest x 0) (sym (add-zero (savedSlipWidth * m)))
+      ∙ byte-past (slipEntries slip m) (endEntry n m) (savedSlipWidth * m) slip-run 0
 
   -- it has the form of a save
-  formed-in-form : inForm n m (formed n m line slip) ≡ true
+  formed-in-form : inForm form n m s ≡ true
   unfolding inForm
   formed-in-form = rw (eq-eqb _ _ formed-length, line-kinds, slip-kinds, end-kind)
 
-  -- bodies that keep the rules make a valid save
-  pub formed-save : n < 65536 → m < 65536 → entriesKept n m line slip ≡ true → isSave (formed n m line slip) ≡ true
-  unfolding isSave savedWidth
-  formed-save h k e =
-      let s : List ℕ = formed n m line slip in
-      rw (formed-lines h, formed-slips k, le-leb 5 (length s) (omega (arith, formed-length)), formed-in-form)
-      (entries-same n m (lineIn s) line (slipIn s n) slip formed-line formed-slip ∙ e)
+  -- lines of which the form says all
+  module _ (says : (i : ℕ) → i < n → frontOf form (body i) ≡ line i) where
+    -- stand in their entries
+    pub formed-line : (i : ℕ) → i < n → lineIn form s i ≡ line i
+    unfolding lineIn
+    formed-line i a = ap (frontOf form) (formed-body i a) ∙ says i a
 
--- what a valid save is
-pub record Valid (s : List ℕ) : Type 0 where
-  pub long : length s ≡ 53 * statedLines s + 51 * statedSlips s + 5
-  pub line-kind : (i : ℕ) → i < statedLines s → getD s (0 + 53 * i) 0 ≡ lineKind
-  pub slip-kind : (j : ℕ) → j < statedSlips s → getD s (53 * statedLines s + 51 * j) 0 ≡ slipKind
-  pub end-kind : getD s (53 * statedLines s + 51 * statedSlips s) 0 ≡ endKind
-  pub entries : entriesKept (statedLines s) (statedSlips s) (lineIn s) (slipIn s (statedLines s)) ≡ true
+    -- make a valid save where they and the slips keep the rules
+    pub formed-save : n < 65536 → m < 65536 → entriesKept n m line slip ≡ true → isSaveOf form s ≡ true
+    unfolding isSaveOf savedWidth
+    formed-save h k e =
+        rw (formed-lines h, formed-slips k, le-leb endWidth (length s) (omega (arith, formed-length)), formed-in-form)
+        (entries-same n m (lineIn form s) line (slipIn s at) slip formed-line formed-slip ∙ e)
+
+    -- and are moved to any form as they are
+    pub formed-moved : (to : Form) → n < 65536 → moved form to s ≡ formed to n m line slip
+    unfolding moved formed
+    formed-moved to h =
+        rw (formed-lines h)
+        (ap₂ (λ (x y : List ℕ). x ++ y) (lines-formed to n (lineIn form s) line formed-line) (drop-at (lineEntries form line n) rest at line-run))
+
+-- what a valid save of a form is
+pub record Valid (form : Form) (s : List ℕ) : Type 0 where
+  pub long : length s ≡ slipsAt form (statedLines s) + savedSlipWidth * statedSlips s + endWidth
+  pub line-kind : (i : ℕ) → i < statedLines s → getD s (0 + savedLineWidth form * i) 0 ≡ lineKind form
+  pub slip-kind : (j : ℕ) → j < statedSlips s → getD s (slipsAt form (statedLines s) + savedSlipWidth * j) 0 ≡ slipKind
+  pub end-kind : getD s (slipsAt form (statedLines s) + savedSlipWidth * statedSlips s) 0 ≡ endKind
+  pub entries : entriesKept (statedLines s) (statedSlips s) (lineIn form s) (slipIn s (slipsAt form (statedLines s))) ≡ true
 
 -- a save that passes the test
-pub valid-so : (s : List ℕ) → isSave s ≡ true → Valid s
-unfolding isSave inForm allOfKind savedWidth
-valid-so s h =
+pub valid-so : (form : Form) (s : List ℕ) → isSaveOf form s ≡ true → Valid form s
+unfolding isSaveOf inForm allOfKind savedWidth
+valid-so form s h =
     let n : ℕ = statedLines s in
     let m : ℕ = statedSlips s in
-    let a : Bool = leb 5 (length s) in
-    let b : Bool = eqb (length s) (53 * n + 51 * m + 5) in
-    let c : Bool = allFrom (λ i. eqb (getD s (0 + 53 * i) 0) lineKind) n 0 in
-    let d : Bool = allFrom (λ j. eqb (getD s (53 * n + 51 * j) 0) slipKind) m 0 in
-    let e : Bool = eqb (getD s (53 * n + 51 * m) 0) endKind in
-    let k : Bool = entriesKept n m (lineIn s) (slipIn s n) in
+    let at : ℕ = slipsAt form n in
+    let a : Bool = leb endWidth (length s) in
+    let b : Bool = eqb (length s) (at + savedSlipWidth * m + endWidth) in
+    let c : Bool = allFrom (λ i. eqb (getD s (0 + savedLineWidth form * i) 0) (lineKind form)) n 0 in
+    let d : Bool = allFrom (λ j. eqb (getD s (at + savedSlipWidth * j) 0) slipKind) m 0 in
+    let e : Bool = eqb (getD s (at + savedSlipWidth * m) 0) endKind in
+    let k : Bool = entriesKept n m (lineIn form s) (slipIn s at) in
     let bk : (b && (c && (d && e))) && k ≡ true = and-right a ((b && (c && (d && e))) && k) h in
     let be : b && (c && (d && e)) ≡ true = and-left (b && (c && (d && e))) k bk in
     let ce : c && (d && e) ≡ true = and-right b (c && (d && e)) be in
     let de : d && e ≡ true = and-right c (d && e) ce in
     record {
       long = eqb-true _ _ (and-left b (c && (d && e)) be);
-      line-kind = λ i l. eqb-true _ _ (all-at (λ i. eqb (getD s (0 + 53 * i) 0) lineKind) n 0 i (and-left c (d && e) ce) (omega arith) (omega arith));
-      slip-kind = λ j l. eqb-true _ _ (all-at (λ j. eqb (getD s (53 * n + 51 * j) 0) slipKind) m 0 j (and-left d e de) (omega arith) (omega arith));
+      line-kind = λ i l. eqb-true _ _ (all-at (λ i. eqb (getD s (0 + savedLineWidth form * i) 0) (lineKind form)) n 0 i (and-left c (d && e) ce) (omega arith) (omega arith));
+      slip-kind = λ j l. eqb-true _ _ (all-at (λ j. eqb (getD s (at + savedSlipWidth * j) 0) slipKind) m 0 j (and-left d e de) (omega arith) (omega arith));
       end-kind = eqb-true _ _ (and-right d e de);
       entries = and-right (b && (c && (d && e))) k bk;
     }
 
--- the last five bytes of a valid save are its end
-end-back : (s : List ℕ) → Bytes s → Valid s → drop (53 * statedLines s + 51 * statedSlips s) s ≡ endEntry (statedLines s) (statedSlips s)
-unfolding endEntry statedLines statedSlips
-end-back s bytes v =
-    let p : ℕ = 53 * statedLines s + 51 * statedSlips s in
-    let long : length s ≡ p + 5 = v .long in
-    let a : length s - 4 ≡ p + 1 = omega arith in
-    let b : length s - 2 ≡ p + 3 = omega arith in
-    let three : p + 1 + 2 ≡ p + 3 = omega arith in
-    let kind : getD s p 0 ≡ endKind = v .end-kind in
-    let first : leBytes 2 (statedLines s) ≡ slice (p + 1) (p + 3) s =
-    ap (λ (x : ℕ). leBytes 2 (leAt s x 2)) a ∙ bytes-back s bytes 2 (p + 1) (omega arith) ∙ ap (λ (x : ℕ). slice (p + 1) x s) three in
-    let second : leBytes 2 (statedSlips s) ≡ drop (p + 3) s =
-    ap (λ (x : ℕ). leBytes 2 (leAt s x 2)) b ∙ bytes-back s bytes 2 (p + 3) (omega arith) ∙ to-end (p + 3) (p + 3 + 2) s (omega arith) in
-    let rest : slice (p + 1) (p + 3) s ++ drop (p + 3) s ≡ drop (suc p) s =
-    rw (← add-one p) (ap (λ (x : ℕ). slice (p + 1) x s ++ drop x s) (sym three) ∙ part-and-rest s (p + 1) 2) in
-    drop-cons s p 0 (omega arith) ∙ ap₂ (λ (x : ℕ) (l : List ℕ). x ∷ l) kind (sym rest ∙ ap₂ (λ (x y : List ℕ). x ++ y) (sym first) (sym second))
+-- a valid save of bytes
+module _ (form : Form) (s : List ℕ) (bytes : Bytes s) (v : Valid form s) where
+  abbrev lines : ℕ
+  lines = statedLines s
 
--- a valid save of bytes is the saved form of its own bodies
-pub valid-formed : (s : List ℕ) → Bytes s → Valid s → formed (statedLines s) (statedSlips s) (lineIn s) (slipIn s (statedLines s)) ≡ s
-unfolding formed lineIn slipIn
-valid-formed s bytes v =
-    let n : ℕ = statedLines s in
-    let m : ℕ = statedSlips s in
-    let long = v .long in
-    let e : 0 + 53 * n ≡ 53 * n = zero-add (53 * n) in
-    ap (λ (l : List ℕ). joinedFrom (λ i. lineKind ∷ lineIn s i) n 0 ++ (joinedFrom (λ j. slipKind ∷ slipIn s n j) m 0 ++ l)) (sym (end-back s bytes v))
-    ∙ ap (λ (l : List ℕ). joinedFrom (λ i. lineKind ∷ lineIn s i) n 0 ++ l)
-    (kinded-cut s (53 * n) slipKind 50 m (slipIn s n) (omega arith) (v .slip-kind) (λ k a. refl))
-    ∙ ap (λ (x : ℕ). joinedFrom (λ i. lineKind ∷ lineIn s i) n 0 ++ drop x s) (sym e)
-    ∙ kinded-cut s 0 lineKind 52 n (lineIn s) (omega arith) (v .line-kind) (λ k a. rw (zero-add (53 * k)))
+  abbrev slips : ℕ
+  slips = statedSlips s
+
+  abbrev start : ℕ
+  start = slipsAt form lines
+
+  -- its last five bytes are its end
+  end-back : drop (start + savedSlipWidth * slips) s ≡ endEntry lines slips
+  unfolding endEntry statedLines statedSlips
+  end-back =
+      let p : ℕ = start + savedSlipWidth * slips in
+      let long : length s ≡ p + 5 = v .long in
+      let a : length s - 4 ≡ p + 1 = omega arith in
+      let b : length s - 2 ≡ p + 3 = omega arith in
+      let three : p + 1 + 2 ≡ p + 3 = omega arith in
+      let kind : getD s p 0 ≡ endKind = v .end-kind in
+      let first : leBytes 2 lines ≡ slice (p + 1) (p + 3) s =
+      ap (λ (x : ℕ). leBytes 2 (leAt s x 2)) a ∙ bytes-back s bytes 2 (p + 1) (omega arith) ∙ ap (λ (x : ℕ). slice (p + 1) x s) three in
+      let second : leBytes 2 slips ≡ drop (p + 3) s =
+      ap (λ (x : ℕ). leBytes 2 (leAt s x 2)) b ∙ bytes-back s bytes 2 (p + 3) (omega arith) ∙ to-end (p + 3) (p + 3 + 2) s (omega arith) in
+      let after : slice (p + 1) (p + 3) s ++ drop (p + 3) s ≡ drop (suc p) s =
+      rw (← add-one p) (ap (λ (x : ℕ). slice (p + 1) x s ++ drop x s) (sym three) ∙ part-and-rest s (p + 1) 2) in
+      drop-cons s p 0 (omega arith) ∙ ap₂ (λ (x : ℕ) (l : List ℕ). x ∷ l) kind (sym after ∙ ap₂ (λ (x y : List ℕ). x ++ y) (sym first) (sym second))
+
+  -- behind its lines stand its slips and its end
+  slips-back : drop start s ≡ slipEntries (slipIn s start) slips ++ endEntry lines slips
+  unfolding slipEntries slipIn
+  slips-back =
+      sym (ap (λ (l : List ℕ). joinedFrom (λ j. slipKind ∷ slipIn s start j) slips 0 ++ l) (sym end-back)
+      ∙ kinded-cut s start slipKind savedSlipWidth slips (slipIn s start) (omega arith) (omega (arith, v .long)) (v .slip-kind) (λ k a. refl))
+
+  -- moved to a form it is the form of its lines and slips
+  pub moved-formed : (to : Form) → moved form to s ≡ formed to lines slips (lineIn form s) (slipIn s start)
+  unfolding moved formed
+  moved-formed to = ap (λ (l : List ℕ). lineEntries to (lineIn form s) lines ++ l) slips-back
+
+  -- a body stands where its entry does
+  body-back : (i : ℕ) → i < lines → take (lineBodyWidth form) (lineIn form s i) ≡ bodyIn form s i
+  unfolding lineIn
+  body-back i a = front-body form (bodyIn form s i) (body-long form s i (omega (arith, line-before form i lines a, v .long)))
+
+  -- so it is itself the form of its lines and slips
+  pub valid-formed : formed form lines slips (lineIn form s) (slipIn s start) ≡ s
+  unfolding formed lineEntries bodyIn slipsAt
+  valid-formed =
+      let w : ℕ = savedLineWidth form in
+      let e : 0 + w * lines ≡ w * lines = zero-add (w * lines) in
+      ap (λ (l : List ℕ). lineEntries form (lineIn form s) lines ++ l) (sym slips-back)
+      ∙ ap (λ (x : ℕ). lineEntries form (lineIn form s) lines ++ drop x s) (sym e)
+      ∙ kinded-cut s 0 (lineKind form) w lines (λ i. take (lineBodyWidth form) (lineIn form s i)) (omega (arith, entry-one form)) (omega (arith, v .long)) (v .line-kind)
+      (λ k a. body-back k a ∙ rw (zero-add (w * k)))

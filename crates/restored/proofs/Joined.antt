@@ -10,7 +10,8 @@ use Rattle.cells.proofs.Parts.{next}
 use Rattle.save.specs.Saved.{joinedFrom}
 use Rattle.save.proofs.Joined.{joined-length}
 use Rattle.cells.proofs.Within.{byte-within, part-within}
-use Rattle.restored.proofs.Cuts.{part-past, part-and-rest}
+use Rattle.save.proofs.Fronts.{part-past}
+use Rattle.restored.proofs.Cuts.{part-and-rest}
 
 -- entries that are equal at each place are joined the same
 pub joined-same : (f g : ℕ → List ℕ) (n i : ℕ) → ((k : ℕ) → i ≤ k → k < i + n → f k ≡ g k) → joinedFrom f n i ≡ joinedFrom g n i
@@ -67,50 +68,51 @@ joined-front s w f n room h =
         let r : w * k + w ≤ length s = omega (arith, mul-le-mul-left w l, mul-suc w k) in
         ap length (h k (omega arith)) ∙ length-slice (w * k) (w * k + w) s r ∙ omega arith
 
--- entries of a byte of kind and a body of w bytes, whatever follows them
-module _ (kind w n : ℕ) (body : ℕ → List ℕ) (wide : (k : ℕ) → k < n → length (body k) ≡ w) where
+-- entries of a byte of kind and a body of w bytes, whatever follows them; v is the width of an entry
+module _ (kind w v : ℕ) (one : v ≡ suc w) (n : ℕ) (body : ℕ → List ℕ) (wide : (k : ℕ) → k < n → length (body k) ≡ w) where
   -- each is so long
-  entry-wide : (k : ℕ) → 0 ≤ k → k < 0 + n → length (kind ∷ body k) ≡ suc w
-  entry-wide k a c = ap suc (wide k (omega arith))
+  entry-wide : (k : ℕ) → 0 ≤ k → k < 0 + n → length (kind ∷ body k) ≡ v
+  entry-wide k a c = ap suc (wide k (omega arith)) ∙ sym one
 
   -- and all of them
-  pub kinded-length : length (joinedFrom (λ k. kind ∷ body k) n 0) ≡ suc w * n
-  kinded-length = joined-length (λ k. kind ∷ body k) (suc w) n 0 entry-wide
+  pub kinded-length : length (joinedFrom (λ k. kind ∷ body k) n 0) ≡ v * n
+  kinded-length = joined-length (λ k. kind ∷ body k) v n 0 entry-wide
 
   module _ (rest : List ℕ) (k : ℕ) (a : k < n) where
-    entry-at : slice (suc w * k) (suc w * k + suc w) (joinedFrom (λ k. kind ∷ body k) n 0 ++ rest) ≡ kind ∷ body k
+    entry-at : slice (v * k) (v * k + v) (joinedFrom (λ k. kind ∷ body k) n 0 ++ rest) ≡ kind ∷ body k
     entry-at =
-        joined-part (λ k. kind ∷ body k) (suc w) rest n 0 k entry-wide a ∙ ap (λ (k : ℕ). kind ∷ body k) (zero-add k)
+        joined-part (λ k. kind ∷ body k) v rest n 0 k entry-wide a ∙ ap (λ (k : ℕ). kind ∷ body k) (zero-add k)
 
     -- the kind of each, and its body
-    pub kinded-kind : getD (joinedFrom (λ k. kind ∷ body k) n 0 ++ rest) (suc w * k) 0 ≡ kind
+    pub kinded-kind : getD (joinedFrom (λ k. kind ∷ body k) n 0 ++ rest) (v * k) 0 ≡ kind
     kinded-kind =
         let s : List ℕ = joinedFrom (λ k. kind ∷ body k) n 0 ++ rest in
-        ap (λ (x : ℕ). getD s x 0) (sym (add-zero (suc w * k)))
-        ∙ sym (byte-within s (suc w * k) (suc w * k + suc w) 0 (omega arith))
+        ap (λ (x : ℕ). getD s x 0) (sym (add-zero (v * k)))
+        ∙ sym (byte-within s (v * k) (v * k + v) 0 (omega arith))
         ∙ ap (λ (l : List ℕ). getD l 0 0) entry-at
 
-    pub kinded-body : slice (suc w * k + 1) (suc w * k + suc w) (joinedFrom (λ k. kind ∷ body k) n 0 ++ rest) ≡ body k
+    pub kinded-body : slice (v * k + 1) (v * k + v) (joinedFrom (λ k. kind ∷ body k) n 0 ++ rest) ≡ body k
     kinded-body =
         let s : List ℕ = joinedFrom (λ k. kind ∷ body k) n 0 ++ rest in
-        sym (part-within s (suc w * k) (suc w * k + suc w) 1 (suc w) (omega arith))
-        ∙ ap (slice 1 (suc w)) entry-at
+        sym (part-within s (v * k) (v * k + v) 1 v (omega arith))
+        ∙ ap (slice 1 v) entry-at
+        ∙ ap (λ (x : ℕ). slice 1 x (kind ∷ body k)) one
         ∙ take-all w (body k) (omega (arith, wide k a))
 
 -- where each of n entries of a list from a place on is a kind and a body, they are that part of it
-pub kinded-cut : (s : List ℕ) (o kind w n : ℕ) (body : ℕ → List ℕ) → o + suc w * n ≤ length s → ((k : ℕ) → k < n → getD s (o + suc w * k) 0 ≡ kind)
-    → ((k : ℕ) → k < n → body k ≡ slice (o + suc w * k + 1) (o + suc w * k + suc w) s)
-    → joinedFrom (λ k. kind ∷ body k) n 0 ++ drop (o + suc w * n) s ≡ drop o s
-kinded-cut s o kind w n body room kinds bodies =
-    let e : o + suc w * (0 + n) ≡ o + suc w * n = rw zero-add in
-    let z : o + suc w * 0 ≡ o = omega arith in
+pub kinded-cut : (s : List ℕ) (o kind v n : ℕ) (body : ℕ → List ℕ) → 0 < v → o + v * n ≤ length s → ((k : ℕ) → k < n → getD s (o + v * k) 0 ≡ kind)
+    → ((k : ℕ) → k < n → body k ≡ slice (o + v * k + 1) (o + v * k + v) s)
+    → joinedFrom (λ k. kind ∷ body k) n 0 ++ drop (o + v * n) s ≡ drop o s
+kinded-cut s o kind v n body some room kinds bodies =
+    let e : o + v * (0 + n) ≡ o + v * n = rw zero-add in
+    let z : o + v * 0 ≡ o = omega arith in
     ap (λ (k : ℕ). joinedFrom (λ k. kind ∷ body k) n 0 ++ drop k s) (sym e)
-    ∙ joined-cut s o (suc w) (λ k. kind ∷ body k) n 0 at-each
+    ∙ joined-cut s o v (λ k. kind ∷ body k) n 0 at-each
     ∙ ap (λ (k : ℕ). drop k s) z
   where
-    at-each : (k : ℕ) → 0 ≤ k → k < 0 + n → kind ∷ body k ≡ slice (o + suc w * k) (o + suc w * k + suc w) s
+    at-each : (k : ℕ) → 0 ≤ k → k < 0 + n → kind ∷ body k ≡ slice (o + v * k) (o + v * k + v) s
     at-each k a c =
         let l : suc k ≤ n = omega arith in
-        let r : o + suc w * k + suc w ≤ length s = omega (arith, mul-le-mul-left (suc w) l, mul-suc (suc w) k) in
+        let r : o + v * k + v ≤ length s = omega (arith, mul-le-mul-left v l, mul-suc v k) in
         ap₂ (λ (x : ℕ) (l : List ℕ). x ∷ l) (sym (kinds k (omega arith))) (bodies k (omega arith))
-        ∙ sym (next s (o + suc w * k) (o + suc w * k + suc w) (omega arith) r)
+        ∙ sym (next s (o + v * k) (o + v * k + v) (omega arith) r)

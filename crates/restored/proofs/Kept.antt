@@ -5,21 +5,19 @@ use mathlib.Core.List.{List}
 use Prim.Native.Nat.{ℕ, _+_, _*_, _≤_, _<_}
 use native.Mathlib.Omega.{arith}
 use lib.Dec.{leb, ltb}
-use lib.ListN.{getD, take}
-use lib.Seq.{slice}
+use lib.ListN.{take}
 use borrow.Author.Tests.{leb-true, ltb-true, le-leb, lt-ltb}
 use Rattle.cells.specs.Bytes.{within}
 use Rattle.cells.specs.Little.{leAt}
 use Rattle.cells.proofs.Bools.{and-left, and-right}
-use Rattle.entry.specs.Report.{mostMark}
-use Rattle.entry.specs.Stored.{lineWidth, keyWidth, orderedAt, markAt, messageAt, arrivedAt, slipKeyWidth, mostCopies, mostArrived, lineAt, lineSound, slipLineAt, slipSound}
+use Rattle.entry.specs.Stored.{lineWidth, keyWidth, orderedAt, arrivedAt, slipKeyWidth, mostCopies, mostArrived, lineAt, lineSound, slipLineAt, slipSound}
+use Rattle.entry.proofs.Sound.{reportFits}
 use Rattle.book.specs.Lent.{Lent, usedLines, usedSlips, lineRoom, slipRoom, sound, roomsSound}
 use Rattle.book.specs.Booking.{slipFields}
 use Rattle.cells.proofs.Searches.{all-at, each-place}
-use Rattle.save.specs.Entries.{referenceAt, slipNumberAt, lineFields, fieldsKept, lineKept, slipKept, partiesAgree, lineIndex, slipCopies, isFirst, arrivedOn, linesKept, slipsKept, sumsKept, entriesKept}
-use Rattle.save.specs.Load.{unsaved}
-use Rattle.save.specs.Saved.{lineBodyAt, slipBodyAt}
-use Rattle.restored.proofs.Bodies.{line-copies, line-mark, unsaved-sound, slip-line}
+use Rattle.save.specs.Entries.{referenceAt, slipNumberAt, lineFields, fieldsKept, reportKept, lineKept, slipKept, partiesAgree, lineIndex, slipCopies, isFirst, arrivedOn, linesKept, slipsKept, sumsKept, entriesKept}
+use Rattle.save.specs.Saved.{lineFrontAt, slipBodyAt}
+use Rattle.restored.proofs.Bodies.{line-copies, line-report, slip-line}
 
 -- what the rules of a save say of a slip: its key keeps them, it has copies, and it names one of n lines, of its school and supplier
 pub record SlipKept (n : ℕ) (line : ℕ → List ℕ) (body : List ℕ) : Type 0 where
@@ -96,31 +94,28 @@ module _ (n m : ℕ) (line slip : ℕ → List ℕ) (kept : entriesKept n m line
   unfolding sumsKept
   sum-most i a = leb-true _ _ (all-at (λ i. leb (arrivedOn slip m i) mostArrived) n 0 i sums-all (omega arith) (omega arith))
 
--- a line whose body keeps the rules, with A within its limit and a last report as a load leaves it, is sound
-line-sound : (lines : List ℕ) (i : ℕ) → lineKept (lineBodyAt lines i) ≡ true → lineAt lines i .arrived .0 ≤ mostArrived
-    → slice (lineWidth * i + messageAt) (lineWidth * i + arrivedAt) lines ≡ unsaved (getD lines (lineWidth * i + markAt) 0) → lineSound lines i ≡ true
+-- a line whose front keeps the rules, with A within its limit, is sound
+line-sound : (lines : List ℕ) (i : ℕ) → lineKept (lineFrontAt lines i) ≡ true → lineAt lines i .arrived .0 ≤ mostArrived → lineSound lines i ≡ true
 unfolding lineSound lineKept lineAt
-line-sound lines i h k said =
+line-sound lines i h k =
     let at : ℕ = lineWidth * i in
-    let body : List ℕ = lineBodyAt lines i in
-    let named : Bool = fieldsKept lineFields referenceAt (take orderedAt body) in
-    let copies : Bool = within 1 mostCopies (leAt body orderedAt 2) in
-    let mark : Bool = leb (getD body markAt 0) mostMark in
-    let r : copies && mark ≡ true = and-right named (copies && mark) h in
-    let c : within 1 mostCopies (leAt lines (at + orderedAt) 2) ≡ true = rw (line-copies lines i) at (and-left copies mark r) in
-    let m : leb (getD lines (at + markAt) 0) mostMark ≡ true = rw (line-mark lines i) at (and-right copies mark r) in
-    rw (c, le-leb (leAt lines (at + arrivedAt) 4) mostArrived k, unsaved-sound lines i (getD lines (at + markAt) 0) m said)
+    let front : List ℕ = lineFrontAt lines i in
+    let named : Bool = fieldsKept lineFields referenceAt (take orderedAt front) in
+    let copies : Bool = within 1 mostCopies (leAt front orderedAt 2) in
+    let r : copies && reportKept front ≡ true = and-right named (copies && reportKept front) h in
+    let c : within 1 mostCopies (leAt lines (at + orderedAt) 2) ≡ true = rw (line-copies lines i) at (and-left copies (reportKept front) r) in
+    let said : reportFits lines i ≡ true = rw (line-report lines i) at (and-right copies (reportKept front) r) in
+    rw (c, le-leb (leAt lines (at + arrivedAt) 4) mostArrived k, said)
 
--- a book in sound rooms that keeps the rules of a save, each A its slips' sum, each last report as a load leaves it, is sound
+-- a book in sound rooms that keeps the rules of a save, each A its slips' sum, is sound
 pub kept-sound : (c : Lent) → roomsSound c ≡ true → usedLines c ≤ lineRoom c → usedSlips c ≤ slipRoom c
-    → entriesKept (usedLines c) (usedSlips c) (lineBodyAt (c .lines)) (slipBodyAt (c .slips)) ≡ true
+    → entriesKept (usedLines c) (usedSlips c) (lineFrontAt (c .lines)) (slipBodyAt (c .slips)) ≡ true
     → ((i : ℕ) → i < usedLines c → lineAt (c .lines) i .arrived .0 ≡ arrivedOn (slipBodyAt (c .slips)) (usedSlips c) i)
-    → ((i : ℕ) → i < usedLines c → slice (lineWidth * i + messageAt) (lineWidth * i + arrivedAt) (c .lines) ≡ unsaved (getD (c .lines) (lineWidth * i + markAt) 0))
     → sound c ≡ true
 unfolding sound slipSound roomsSound
-kept-sound c rooms u v kept sums said =
+kept-sound c rooms u v kept sums =
     let n : ℕ = usedLines c in
     let m : ℕ = usedSlips c in
-    let line : ℕ → List ℕ = lineBodyAt (c .lines) in
+    let line : ℕ → List ℕ = lineFrontAt (c .lines) in
     let slip : ℕ → List ℕ = slipBodyAt (c .slips) in
-    rw (rooms, le-leb n (lineRoom c) u, le-leb m (slipRoom c) v, each-place (lineSound (c .lines)) n 0 (λ i a h. line-sound (c .lines) i (line-kept n m line slip kept i (omega arith)) (rw (sums i (omega arith)) (sum-most n m line slip kept i (omega arith))) (said i (omega arith))), each-place (slipSound n (c .slips)) m 0 (λ j a h. lt-ltb (slipLineAt (c .slips) j) n (rw (← slip-line (c .slips) j) (slip-kept n m line slip kept j (omega arith) .names))))
+    rw (rooms, le-leb n (lineRoom c) u, le-leb m (slipRoom c) v, each-place (lineSound (c .lines)) n 0 (λ i a h. line-sound (c .lines) i (line-kept n m line slip kept i (omega arith)) (rw (sums i (omega arith)) (sum-most n m line slip kept i (omega arith)))), each-place (slipSound n (c .slips)) m 0 (λ j a h. lt-ltb (slipLineAt (c .slips) j) n (rw (← slip-line (c .slips) j) (slip-kept n m line slip kept j (omega arith) .names))))

@@ -29,7 +29,7 @@ use Rattle.book.specs.Booking.{keyFields, lineKey, articleFields, articleIn, sl
 use Rattle.record.proofs.Kept.{each-kept, field-length}
 use Rattle.book.proofs.Fields.{named-fields}
 use Rattle.save.specs.Entries.{referenceAt, slipNumberAt, nameWidth, lineFields, goodsFields, fieldsKept, partiesAgree}
-use Rattle.restored.proofs.Cuts.{part-past}
+use Rattle.save.proofs.Fronts.{part-past}
 
 -- a test that holds at each byte of a list holds at each byte of some of its fields
 module _ (p : ℕ → Bool) where

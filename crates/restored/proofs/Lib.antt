@@ -1,12 +1,15 @@
 pub mod Cuts
 pub mod Joined
-pub mod Views
 pub mod Bodies
 pub mod Kept
 pub mod Forms
+pub mod Says
+pub mod Taken
+pub mod Moved
 pub mod Loaded
 pub mod Saved
 pub mod Restored
+pub mod Moves
 pub mod Keys
 pub mod Ordered
 pub mod Opened

@@ -5,18 +5,16 @@ use mathlib.Core.List.{List}
 use Prim.Native.Nat.{ℕ, _<_}
 use native.Mathlib.Omega.{arith}
 use borrow.Author.Tests.{not-true}
-use lib.Dec.{leb}
-use lib.ListN.{length, getD, take}
+use lib.ListN.{length, take}
 use Rattle.cells.specs.Bytes.{within, same}
 use Rattle.cells.specs.Little.{leAt}
 use Rattle.cells.proofs.Bools.{and-left}
-use Rattle.entry.specs.Report.{mostMark}
-use Rattle.entry.specs.Stored.{keyWidth, orderedAt, markAt, slipKeyWidth, mostCopies, keyAt, slipKeyAt}
+use Rattle.entry.specs.Stored.{keyWidth, orderedAt, slipKeyWidth, mostCopies, keyAt, slipKeyAt}
 use Rattle.book.specs.Lent.{Lent, usedLines, usedSlips}
 use Rattle.cells.proofs.Searches.{all-at}
 use Rattle.entry.proofs.Kept.{namedAt}
-use Rattle.save.specs.Entries.{referenceAt, lineFields, fieldsKept, lineKept, lineIndex, isFirst}
-use Rattle.save.specs.Saved.{lineBodyAt, slipBodyAt}
+use Rattle.save.specs.Entries.{referenceAt, lineFields, fieldsKept, reportKept, lineKept, lineIndex, isFirst}
+use Rattle.save.specs.Saved.{lineFrontAt, slipBodyAt}
 use Rattle.restored.specs.Restored.{Orderly}
 use Rattle.restored.proofs.Bodies.{line-key, line-named, slip-key, slip-line, slip-copies, parties-keys}
 use Rattle.restored.proofs.Kept.{SlipKept, line-kept, line-first, slip-kept, slip-first}
@@ -30,11 +28,11 @@ first-so width body key own e i h f =
     rw (← own e, ← own i) (not-true _ (all-at (λ e. not (same (take width (body e)) (take width (body i)))) i 0 e f (omega arith) (omega arith)))
 
 -- a line that keeps the rules has a key that does
-line-rule : (ls : List ℕ) (i : ℕ) → lineKept (lineBodyAt ls i) ≡ true → fieldsKept lineFields referenceAt (namedAt ls i) ≡ true
+line-rule : (ls : List ℕ) (i : ℕ) → lineKept (lineFrontAt ls i) ≡ true → fieldsKept lineFields referenceAt (namedAt ls i) ≡ true
 unfolding lineKept
 line-rule ls i h =
-    let body : List ℕ = lineBodyAt ls i in
-    rw (← line-named ls i) (and-left (fieldsKept lineFields referenceAt (take orderedAt body)) (within 1 mostCopies (leAt body orderedAt 2) && leb (getD body markAt 0) mostMark) h)
+    let front : List ℕ = lineFrontAt ls i in
+    rw (← line-named ls i) (and-left (fieldsKept lineFields referenceAt (take orderedAt front)) (within 1 mostCopies (leAt front orderedAt 2) && reportKept front) h)
 
 -- an orderly book with two counts
 pub ordered : (b : Lent) → Orderly b → length (b .used) ≡ 2 → Ordered b
@@ -43,7 +41,7 @@ ordered b o two =
     let ss : List ℕ = b .slips in
     let n : ℕ = usedLines b in
     let m : ℕ = usedSlips b in
-    let line : ℕ → List ℕ = lineBodyAt ls in
+    let line : ℕ → List ℕ = lineFrontAt ls in
     let slip : ℕ → List ℕ = slipBodyAt ss in
     let e = o .entries in
     let kept : (j : ℕ) → j < m → SlipKept n line (slip j) = slip-kept n m line slip e in

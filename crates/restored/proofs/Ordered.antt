@@ -14,15 +14,15 @@ use Rattle.cells.proofs.Bools.{and-left, and-right}
 use Rattle.cells.proofs.Searches.{each-place, sum-same}
 use Rattle.entry.specs.Stored.{lineWidth, keyWidth, orderedAt, slipKeyWidth, mostCopies, mostArrived, lineAt, keyAt, lineSound, slipKeyAt, slipLineAt, slipCopiesAt}
 use Rattle.entry.proofs.Kept.{namedAt}
-use Rattle.entry.proofs.Sound.{sound-bounded, sound-mark}
+use Rattle.entry.proofs.Sound.{report-fits, sound-bounded}
 use Rattle.book.specs.Lent.{Lent, usedLines, usedSlips}
 use Rattle.book.specs.Booking.{slipFields}
 use Rattle.book.proofs.Sounds.{sound-so}
 use Rattle.balance.proofs.Soundness.{Kept}
 use Rattle.save.specs.Entries.{referenceAt, slipNumberAt, lineFields, fieldsKept, lineKept, partiesAgree, slipKept, isFirst, copiesOn, arrivedOn, linesKept, slipsKept, sumsKept, entriesKept}
-use Rattle.save.specs.Saved.{lineBodyAt, slipBodyAt}
+use Rattle.save.specs.Saved.{lineFrontAt, slipBodyAt}
 use Rattle.restored.specs.Restored.{Orderly}
-use Rattle.restored.proofs.Bodies.{line-key, line-named, line-copies, line-mark, slip-key, slip-line, slip-copies, parties-keys}
+use Rattle.restored.proofs.Bodies.{line-key, line-named, line-copies, line-report, slip-key, slip-line, slip-copies, parties-keys}
 
 -- the copies of the slip at j where it names the line at i, else none
 unfoldable pub bookedOn : List ℕ → ℕ → ℕ → ℕ
@@ -40,12 +40,12 @@ pub record Ordered (b : Lent) : Type 0 where
   pub sums : (i : ℕ) → i < usedLines b → lineAt (b .lines) i .arrived .0 ≡ sumFrom (bookedOn (b .slips) i) (usedSlips b) 0
 
 -- a line that is sound, with a key and article that keep the rules, keeps the rules
-line-kept : (ls : List ℕ) (i : ℕ) → lineSound ls i ≡ true → fieldsKept lineFields referenceAt (namedAt ls i) ≡ true → lineKept (lineBodyAt ls i) ≡ true
+line-kept : (ls : List ℕ) (i : ℕ) → lineSound ls i ≡ true → fieldsKept lineFields referenceAt (namedAt ls i) ≡ true → lineKept (lineFrontAt ls i) ≡ true
 unfolding lineKept lineAt
 line-kept ls i h e =
     let q : ℕ = leAt ls (lineWidth * i + orderedAt) 2 in
     let b = sound-bounded ls i h in
-    rw (line-named ls i, line-copies ls i, line-mark ls i, e, le-leb 1 q (b .least), le-leb q mostCopies (b .most), sound-mark ls i h)
+    rw (line-named ls i, line-copies ls i, line-report ls i, e, le-leb 1 q (b .least), le-leb q mostCopies (b .most), report-fits ls i h)
 
 -- where no earlier key is the same, an entry is the first with its key
 is-first : (width : ℕ) (body : ℕ → List ℕ) (key : ℕ → List ℕ) → ((x : ℕ) → take width (body x) ≡ key x)
@@ -62,31 +62,31 @@ arrived-on ss m i = sum-same (copiesOn (slipBodyAt ss) i) (bookedOn ss i) m 0 (�
 -- such a book
 module _ (b : Lent) (o : Ordered b) where
   -- each line keeps the rules
-  lines-kept : linesKept (usedLines b) (lineBodyAt (b .lines)) ≡ true
+  lines-kept : linesKept (usedLines b) (lineFrontAt (b .lines)) ≡ true
   unfolding linesKept
   lines-kept =
       let say = sound-so b (o .kept .is-sound) in
-      each-place (λ i. lineKept (lineBodyAt (b .lines) i) && isFirst keyWidth (lineBodyAt (b .lines)) i) (usedLines b) 0
+      each-place (λ i. lineKept (lineFrontAt (b .lines) i) && isFirst keyWidth (lineFrontAt (b .lines)) i) (usedLines b) 0
       (λ i a c.
       let l : i < usedLines b = omega arith in
-      rw (line-kept (b .lines) i (say .line-sound i l) (o .line-rules i l), is-first keyWidth (lineBodyAt (b .lines)) (keyAt (b .lines)) (line-key (b .lines)) i (λ e h. o .line-new e i h l)))
+      rw (line-kept (b .lines) i (say .line-sound i l) (o .line-rules i l), is-first keyWidth (lineFrontAt (b .lines)) (keyAt (b .lines)) (line-key (b .lines)) i (λ e h. o .line-new e i h l)))
 
   -- a slip keeps the rules
-  slip-is-kept : (j : ℕ) → j < usedSlips b → slipKept (usedLines b) (lineBodyAt (b .lines)) (slipBodyAt (b .slips) j) ≡ true
+  slip-is-kept : (j : ℕ) → j < usedSlips b → slipKept (usedLines b) (lineFrontAt (b .lines)) (slipBodyAt (b .slips) j) ≡ true
   unfolding slipKept
   slip-is-kept j l =
       let names = sound-so b (o .kept .is-sound) .slip-names j l in
       let i : ℕ = slipLineAt (b .slips) j in
       let n : ℕ = slipCopiesAt (b .slips) j .0 in
       let some = o .slip-copies j l in
-      rw (slip-key (b .slips) j, slip-line (b .slips) j, slip-copies (b .slips) j, o .slip-rules j l, and-left (leb 1 n) (leb n mostCopies) some, and-right (leb 1 n) (leb n mostCopies) some, lt-ltb i (usedLines b) names, parties-keys (slipBodyAt (b .slips) j) (lineBodyAt (b .lines) i), slip-key (b .slips) j, line-key (b .lines) i)
+      rw (slip-key (b .slips) j, slip-line (b .slips) j, slip-copies (b .slips) j, o .slip-rules j l, and-left (leb 1 n) (leb n mostCopies) some, and-right (leb 1 n) (leb n mostCopies) some, lt-ltb i (usedLines b) names, parties-keys (slipBodyAt (b .slips) j) (lineFrontAt (b .lines) i), slip-key (b .slips) j, line-key (b .lines) i)
       (o .slip-parties j l)
 
   -- each slip does
-  slips-kept : slipsKept (usedLines b) (usedSlips b) (lineBodyAt (b .lines)) (slipBodyAt (b .slips)) ≡ true
+  slips-kept : slipsKept (usedLines b) (usedSlips b) (lineFrontAt (b .lines)) (slipBodyAt (b .slips)) ≡ true
   unfolding slipsKept
   slips-kept =
-      each-place (λ j. slipKept (usedLines b) (lineBodyAt (b .lines)) (slipBodyAt (b .slips) j) && isFirst slipKeyWidth (slipBodyAt (b .slips)) j) (usedSlips b) 0
+      each-place (λ j. slipKept (usedLines b) (lineFrontAt (b .lines)) (slipBodyAt (b .slips) j) && isFirst slipKeyWidth (slipBodyAt (b .slips)) j) (usedSlips b) 0
       (λ j a c.
       let l : j < usedSlips b = omega arith in
       rw (slip-is-kept j l, is-first slipKeyWidth (slipBodyAt (b .slips)) (slipKeyAt (b .slips)) (slip-key (b .slips)) j (λ e h. o .slip-new e j h l)))

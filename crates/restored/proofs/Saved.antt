@@ -1,43 +1,42 @@
--- The saved form of a book: of a sound one, read back; and of one that is told by a save, the save.
-use mathlib.Core.Path.{_≡_, _∙_, ap, sym, refl}
+-- The saved form of a book: of a sound one, read back; and of one that is told by a save, the save in the new form.
+use mathlib.Core.Path.{_≡_, _∙_, ap, sym}
 use mathlib.Core.Bool.{true}
 use mathlib.Core.List.{List}
 use Prim.Native.Nat.{ℕ, _+_, _*_, _≤_, _<_}
 use native.Mathlib.Omega.{arith}
 use lib.ListN.{length, take}
-use lib.Seq.{length-slice}
+use lib.Seq.{slice, length-slice}
 use Rattle.cells.specs.Little.{leAt}
+use Rattle.cells.proofs.Parts.{parts-join}
 use Rattle.entry.specs.Stored.{lineWidth, arrivedAt, slipWidth, lineAt}
 use Rattle.book.specs.Lent.{Lent, usedLines, usedSlips}
 use Rattle.book.proofs.Sounds.{sound-so}
+use Rattle.save.specs.Form.{frontWidth, frontOf, lineBodyWidth, slipsAt}
 use Rattle.save.specs.Entries.{arrivedOn}
-use Rattle.save.specs.Saved.{lineBodyWidth, slipBodyWidth, joinedFrom, lineBodyAt, slipBodyAt, lineEntries, slipEntries, savedForm, savedWidth, statedLines, statedSlips, lineIn, slipIn, isSave}
+use Rattle.save.specs.Saved.{slipBodyWidth, joinedFrom, lineFrontAt, slipBodyAt, formed, savedForm, savedWidth, statedLines, statedSlips, lineIn, slipIn, isSaveOf, formIn}
 use Rattle.save.specs.Load.{lineFrom, loadedLine}
-use Rattle.restored.specs.Restored.{Bytes, Orderly, withoutReport, Tells}
+use Rattle.save.specs.Moves.{moved}
+use Rattle.save.specs.declared.form.Form.{Form}
+use Rattle.save.specs.declared.form.Form.the-variants.{New}
+use Rattle.save.proofs.Views.{arrived-same}
+use Rattle.restored.specs.Restored.{Bytes, Orderly, Tells}
 use Rattle.restored.proofs.Cuts.{bytes-back}
-use Rattle.restored.proofs.Joined.{joined-same, joined-front}
-use Rattle.restored.proofs.Bodies.{line-mark}
-use Rattle.restored.proofs.Views.{arrived-same}
-use Rattle.restored.proofs.Forms.{formed, formed-same, formed-length, formed-line, formed-slip, formed-lines, formed-slips, formed-save, valid-so, valid-formed}
+use Rattle.restored.proofs.Joined.{joined-front}
+use Rattle.restored.proofs.Says.{new-says}
+use Rattle.restored.proofs.Forms.{formed-same, formed-length, formed-line, formed-slip, formed-lines, formed-slips, formed-save, valid-so, moved-formed}
+use Rattle.restored.proofs.Taken.{form-taken, slips-taken}
 
--- a book is saved in the form of its bodies
-book-formed : (b : Lent) → savedForm b ≡ formed (usedLines b) (usedSlips b) (lineBodyAt (b .lines)) (slipBodyAt (b .slips))
-unfolding savedForm lineEntries slipEntries formed
-book-formed b = refl
-
--- a book that a save of bytes tells is saved as these bytes
-pub told-saved : (s : List ℕ) (b c : Lent) → Bytes s → Tells s b c → savedForm c ≡ s
-told-saved s b c bytes t =
+-- a book that a save of bytes tells is saved as the save is moved to the new form
+pub told-saved : (form : Form) (s : List ℕ) (b c : Lent) → Bytes s → isSaveOf form s ≡ true → Tells s b c → savedForm c ≡ moved form New s
+unfolding savedForm
+told-saved form s b c bytes valid t =
     let n : ℕ = statedLines s in
     let m : ℕ = statedSlips s in
-    book-formed c
-    ∙ rw (t .count-lines, t .count-slips)
-    (formed-same n m (lineBodyAt (c .lines)) (lineIn s) (slipBodyAt (c .slips)) (slipIn s n) (t .line) (t .slip) ∙ valid-formed s bytes (valid-so s (t .valid)))
-
--- and its save is as long as these
-pub told-width : (s : List ℕ) (b c : Lent) → Tells s b c → savedWidth (usedLines c) (usedSlips c) ≡ length s
-unfolding savedWidth
-told-width s b c t = rw (t .count-lines, t .count-slips) (sym (valid-so s (t .valid) .long))
+    rw (t .count-lines, t .count-slips)
+    (formed-same New n m (lineFrontAt (c .lines)) (lineIn form s) (slipBodyAt (c .slips)) (slipIn s (slipsAt form n))
+    (λ i a. t .line i a ∙ ap (λ (f : Form). lineIn f s i) (form-taken form s valid (omega arith)))
+    (λ j a. t .slip j a ∙ ap (λ (at : ℕ). slipIn s at j) (slips-taken form s valid))
+    ∙ sym (moved-formed form s bytes (valid-so form s valid) New))
 
 -- an orderly book
 module _ (b : Lent) (orderly : Orderly b) where
@@ -48,17 +47,21 @@ module _ (b : Lent) (orderly : Orderly b) where
   m = usedSlips b
 
   abbrev line : ℕ → List ℕ
-  line = lineBodyAt (b .lines)
+  line = lineFrontAt (b .lines)
 
   abbrev slip : ℕ → List ℕ
   slip = slipBodyAt (b .slips)
 
-  -- the body of a line is of its width
-  line-wide : (i : ℕ) → i < n → length (line i) ≡ lineBodyWidth
-  unfolding lineBodyAt
-  line-wide i a = length-slice (lineWidth * i) (lineWidth * i + lineBodyWidth) (b .lines) (omega (arith, sound-so b (orderly .is-sound) .lines-in)) ∙ omega arith
+  -- the front of a line is of its width
+  line-wide : (i : ℕ) → i < n → length (line i) ≡ frontWidth
+  unfolding lineFrontAt
+  line-wide i a = length-slice (lineWidth * i) (lineWidth * i + frontWidth) (b .lines) (omega (arith, sound-so b (orderly .is-sound) .lines-in)) ∙ omega arith
 
-  -- a slip's
+  -- the new form says all of it
+  line-said : (i : ℕ) → i < n → frontOf New (take (lineBodyWidth New) (line i)) ≡ line i
+  line-said i a = new-says (line i) (line-wide i a)
+
+  -- a slip's body
   slip-wide : (j : ℕ) → j < m → length (slip j) ≡ slipBodyWidth
   unfolding slipBodyAt
   slip-wide j a = length-slice (slipWidth * j) (slipWidth * j + slipBodyWidth) (b .slips) (omega (arith, sound-so b (orderly .is-sound) .slips-in)) ∙ omega arith
@@ -72,45 +75,50 @@ module _ (b : Lent) (orderly : Orderly b) where
   few-slips = let say = sound-so b (orderly .is-sound) in omega (arith, say .slips-fit, say .slips-most)
 
   -- its saved form is so long
-  pub saved-width : length (savedForm b) ≡ savedWidth n m
-  saved-width = ap length (book-formed b) ∙ formed-length n m line slip line-wide slip-wide
+  pub saved-width : length (savedForm b) ≡ savedWidth New n m
+  unfolding savedForm
+  saved-width = formed-length New n m line slip line-wide slip-wide
 
   -- is a valid save
-  pub saved-valid : isSave (savedForm b) ≡ true
-  saved-valid = ap isSave (book-formed b) ∙ formed-save n m line slip line-wide slip-wide few-lines few-slips (orderly .entries)
+  pub saved-valid : isSaveOf New (savedForm b) ≡ true
+  unfolding savedForm
+  saved-valid = formed-save New n m line slip line-wide slip-wide line-said few-lines few-slips (orderly .entries)
 
   -- states the lines
   pub saved-lines : statedLines (savedForm b) ≡ n
-  saved-lines = ap statedLines (book-formed b) ∙ formed-lines n m line slip line-wide slip-wide few-lines
+  unfolding savedForm
+  saved-lines = formed-lines New n m line slip line-wide slip-wide few-lines
 
   -- states the slips
   pub saved-slips : statedSlips (savedForm b) ≡ m
-  saved-slips = ap statedSlips (book-formed b) ∙ formed-slips n m line slip line-wide slip-wide few-slips
+  unfolding savedForm
+  saved-slips = formed-slips New n m line slip line-wide slip-wide few-slips
 
-  -- the bodies of lines stand there
-  saved-line : (i : ℕ) → i < n → lineIn (savedForm b) i ≡ line i
-  saved-line i a = ap (λ (s : List ℕ). lineIn s i) (book-formed b) ∙ formed-line n m line slip line-wide slip-wide i a
+  -- the fronts of lines stand there
+  saved-line : (i : ℕ) → i < n → lineIn New (savedForm b) i ≡ line i
+  unfolding savedForm
+  saved-line i a = formed-line New n m line slip line-wide slip-wide line-said i a
 
-  -- those of slips
-  saved-slip : (j : ℕ) → j < m → slipIn (savedForm b) n j ≡ slip j
-  saved-slip j a = ap (λ (s : List ℕ). slipIn s n j) (book-formed b) ∙ formed-slip n m line slip line-wide slip-wide j a
+  -- the bodies of slips
+  saved-slip : (j : ℕ) → j < m → slipIn (savedForm b) (slipsAt New n) j ≡ slip j
+  unfolding savedForm
+  saved-slip j a = formed-slip New n m line slip line-wide slip-wide j a
 
-  -- a line is loaded as it stands in the book, but for its last report
-  line-again : Bytes (b .lines) → (i : ℕ) → i < n → loadedLine (savedForm b) n m i ≡ withoutReport (b .lines) i
-  unfolding loadedLine lineFrom withoutReport lineAt
+  -- a line is loaded as it stands in the book
+  line-again : Bytes (b .lines) → (i : ℕ) → i < n → loadedLine New (savedForm b) n m i ≡ slice (lineWidth * i) (lineWidth * i + lineWidth) (b .lines)
+  unfolding loadedLine lineFrom lineAt lineFrontAt
   line-again bytes i a =
       let at : ℕ = lineWidth * i + arrivedAt in
       let room : at + 4 ≤ length (b .lines) = omega (arith, sound-so b (orderly .is-sound) .lines-in) in
-      let end : lineWidth * i + lineWidth ≡ at + 4 = omega arith in
-      let sum : arrivedOn (slipIn (savedForm b) n) m i ≡ leAt (b .lines) at 4 =
-      arrived-same m (slipIn (savedForm b) n) slip saved-slip i ∙ sym (orderly .sums i a) in
-      rw (saved-line i a, line-mark (b .lines) i, sum, bytes-back (b .lines) bytes 4 at room, end) refl
+      let sum : arrivedOn (slipIn (savedForm b) (slipsAt New n)) m i ≡ leAt (b .lines) at 4 =
+      arrived-same m (slipIn (savedForm b) (slipsAt New n)) slip saved-slip i ∙ sym (orderly .sums i a) in
+      rw (saved-line i a, sum, bytes-back (b .lines) bytes 4 at room) (parts-join (lineWidth * i) arrivedAt 4 (b .lines))
 
-  -- the loaded lines are the used lines of the book, but for these
-  pub lines-again : Bytes (b .lines) → joinedFrom (loadedLine (savedForm b) n m) n 0 ≡ joinedFrom (withoutReport (b .lines)) n 0
-  lines-again bytes = joined-same (loadedLine (savedForm b) n m) (withoutReport (b .lines)) n 0 (λ i a c. line-again bytes i (omega arith))
+  -- the loaded lines are the used lines of the book
+  pub lines-again : Bytes (b .lines) → joinedFrom (loadedLine New (savedForm b) n m) n 0 ≡ take (lineWidth * n) (b .lines)
+  lines-again bytes = joined-front (b .lines) lineWidth (loadedLine New (savedForm b) n m) n (sound-so b (orderly .is-sound) .lines-in) (line-again bytes)
 
   -- the slips
-  pub slips-again : joinedFrom (slipIn (savedForm b) n) m 0 ≡ take (slipWidth * m) (b .slips)
+  pub slips-again : joinedFrom (slipIn (savedForm b) (slipsAt New n)) m 0 ≡ take (slipWidth * m) (b .slips)
   unfolding slipBodyAt
-  slips-again = joined-front (b .slips) slipWidth (slipIn (savedForm b) n) m (sound-so b (orderly .is-sound) .slips-in) saved-slip
+  slips-again = joined-front (b .slips) slipWidth (slipIn (savedForm b) (slipsAt New n)) m (sound-so b (orderly .is-sound) .slips-in) saved-slip

@@ -1,3 +1,4 @@
 pub mod Restored
+pub mod Moves
 pub mod Bookings
 pub mod History

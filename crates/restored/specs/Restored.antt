@@ -1,18 +1,21 @@
--- Saving and loading, the statements: load of a save gives the book but for the last messages and dates, save of what was loaded gives the bytes, and what a load can be.
+-- Saving and loading, the statements: load of a save gives the book, save of what was loaded gives the bytes, from an old save those of its new form, and what a load can be.
 use Prim.Native.Nat.{ℕ, _+_, _*_, _≤_, _<_}
 use mathlib.Core.Path.{_≡_}
 use mathlib.Core.Bool.{true, _&&_}
 use mathlib.Core.Logic.{_⊎_}
-use mathlib.Core.List.{List, _++_}
+use mathlib.Core.List.{List}
 use lib.Dec.{eqb, leb, ltb}
-use lib.ListN.{length, getD, take, drop}
-use lib.Seq.{slice, sets}
+use lib.ListN.{length, take, drop}
+use lib.Seq.{sets}
 use Rattle.cells.specs.Bytes.{all}
-use Rattle.entry.specs.Stored.{lineWidth, markAt, messageAt, arrivedAt, slipWidth, lineAt}
+use Rattle.entry.specs.Stored.{lineWidth, slipWidth, lineAt}
 use Rattle.book.specs.Lent.{Lent, usedLines, usedSlips, lineRoom, slipRoom, sound, roomsSound}
+use Rattle.save.specs.Form.{slipsAt}
 use Rattle.save.specs.Entries.{arrivedOn, entriesKept}
-use Rattle.save.specs.Saved.{Written, joinedFrom, lineBodyAt, slipBodyAt, save, statedLines, statedSlips, lineIn, slipIn, isSave}
-use Rattle.save.specs.Load.{Outcome, unsaved, load}
+use Rattle.save.specs.Saved.{Written, written, lineFrontAt, slipBodyAt, savedAs, save, statedLines, statedSlips, lineIn, slipIn, isSaveOf, isSave, formIn}
+use Rattle.save.specs.Load.{Outcome, load}
+use Rattle.save.specs.Moves.{toNew}
+use Rattle.save.specs.declared.form.Form.the-variants.{Old, New}
 
 -- a list of bytes
 abbrev pub Bytes : List ℕ → Type 0
@@ -21,19 +24,14 @@ Bytes s = all (λ b. ltb b 256) s ≡ true
 -- a book that comes back from its save (RULES 9.5): sound, its entries as a save may have them, each A what its slips come to
 pub record Orderly (b : Lent) : Type 0 where
   pub is-sound : sound b ≡ true
-  pub entries : entriesKept (usedLines b) (usedSlips b) (lineBodyAt (b .lines)) (slipBodyAt (b .slips)) ≡ true
+  pub entries : entriesKept (usedLines b) (usedSlips b) (lineFrontAt (b .lines)) (slipBodyAt (b .slips)) ≡ true
   pub sums : (i : ℕ) → i < usedLines b → lineAt (b .lines) i .arrived .0 ≡ arrivedOn (slipBodyAt (b .slips)) (usedSlips b) i
 
--- a line of a book as a save leaves it: message and expected date are what a load has for them, by the mark; all else is its own
-unfoldable pub withoutReport : List ℕ → ℕ → List ℕ
-withoutReport lines i =
-    lineBodyAt lines i ++ (unsaved (getD lines (lineWidth * i + markAt) 0) ++ slice (lineWidth * i + arrivedAt) (lineWidth * i + lineWidth) lines)
-
--- two books with equal counts and used entries, but for message and expected date in the lines of the second
-pub record SameButReports (b c : Lent) : Type 0 where
+-- two books with equal counts and used entries
+pub record SameBook (b c : Lent) : Type 0 where
   pub count-lines : usedLines c ≡ usedLines b
   pub count-slips : usedSlips c ≡ usedSlips b
-  pub lines : take (lineWidth * usedLines b) (c .lines) ≡ joinedFrom (withoutReport (b .lines)) (usedLines b) 0
+  pub lines : take (lineWidth * usedLines b) (c .lines) ≡ take (lineWidth * usedLines b) (b .lines)
   pub slips : take (slipWidth * usedSlips b) (c .slips) ≡ take (slipWidth * usedSlips b) (b .slips)
 
 -- a lent book, of any contents, with room for the used entries of another
@@ -47,27 +45,31 @@ pub record Holds (c b : Lent) : Type 0 where
 abbrev pub savedBytes : Written → List ℕ
 savedBytes w = take (w .said .length) (w .out)
 
--- a book that was saved and loaded uses the same entries as before, but for message and expected date
+-- a book that was saved and loaded uses the same entries as before, messages and expected dates among them
 abbrev pub LoadOfSave : Type 0
 LoadOfSave =
     (b c : Lent) (out : List ℕ) → Orderly b → Bytes (b .lines) → Holds c b → save b out .said .answer ≡ 0
-    → (load (savedBytes (save b out)) c .said .answer ≡ 0) × SameButReports b (load (savedBytes (save b out)) c .lent)
+    → (load (savedBytes (save b out)) c .said .answer ≡ 0) × SameBook b (load (savedBytes (save b out)) c .lent)
 
--- save of what was loaded gives the same bytes, and changes nothing else of the output
+-- save of what was loaded from a save of the new form gives the same bytes, and changes nothing else of the output
 abbrev pub SaveOfLoad : Type 0
 SaveOfLoad =
-    (s : List ℕ) (b : Lent) (out : List ℕ) → Bytes s → length (b .used) ≡ 2 → load s b .said .answer ≡ 0 → length s ≤ length out
-    → save (load s b .lent) out ≡ record { said = record { answer = 0; place = 0; length = length s }; out = sets out 0 s }
+    (s : List ℕ) (b : Lent) (out : List ℕ) → Bytes s → isSaveOf New s ≡ true → length (b .used) ≡ 2 → load s b .said .answer ≡ 0 → length s ≤ length out
+    → save (load s b .lent) out ≡ written (savedAs (length s)) (sets out 0 s)
 
--- the book c that a save tells, where b was lent: its counts and entries, what a load has for messages and dates, as each A the sum of the line's slips, and nothing else is changed
+-- save of what was loaded from a save of the old form says and writes what the move to the new form does, into any output
+abbrev pub SaveOfOldLoad : Type 0
+SaveOfOldLoad =
+    (s : List ℕ) (b : Lent) (out : List ℕ) → Bytes s → isSaveOf Old s ≡ true → length (b .used) ≡ 2 → load s b .said .answer ≡ 0
+    → save (load s b .lent) out ≡ toNew s out
+
+-- the book c that a save tells, where b was lent: its counts and entries, of each line the front that its form says, as each A the sum of the line's slips, and nothing else is changed
 pub record Tells (s : List ℕ) (b c : Lent) : Type 0 where
   pub valid : isSave s ≡ true
   pub count-lines : usedLines c ≡ statedLines s
   pub count-slips : usedSlips c ≡ statedSlips s
-  pub line : (i : ℕ) → i < statedLines s → lineBodyAt (c .lines) i ≡ lineIn s i
-  pub report : (i : ℕ) → i < statedLines s
-      → slice (lineWidth * i + messageAt) (lineWidth * i + arrivedAt) (c .lines) ≡ unsaved (getD (lineIn s i) markAt 0)
-  pub slip : (j : ℕ) → j < statedSlips s → slipBodyAt (c .slips) j ≡ slipIn s (statedLines s) j
+  pub line : (i : ℕ) → i < statedLines s → lineFrontAt (c .lines) i ≡ lineIn (formIn s) s i
+  pub slip : (j : ℕ) → j < statedSlips s → slipBodyAt (c .slips) j ≡ slipIn s (slipsAt (formIn s) (statedLines s)) j
   pub orderly : Orderly c
   pub other-lines : drop (lineWidth * statedLines s) (c .lines) ≡ drop (lineWidth * statedLines s) (b .lines)
   pub other-slips : drop (slipWidth * statedSlips s) (c .slips) ≡ drop (slipWidth * statedSlips s) (b .slips)

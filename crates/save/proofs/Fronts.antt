@@ -19,6 +19,7 @@ use Rattle.entry.specs.Report.{noMark, leastMark, mostMark, blankDate, reportSo
 use Rattle.entry.specs.Stored.{markAt, messageAt, expectedAt}
 use Rattle.save.specs.Form.{frontWidth, lineBodyWidth, unsavedWidth, unsavedMessage, unsaved, frontOf}
 use Rattle.save.specs.Entries.{reportKept, partiesAgree}
+use Rattle.save.specs.Moves.{isNumbered}
 use Rattle.save.specs.declared.form.Form.{Form}
 use Rattle.save.specs.declared.form.Form.the-variants.{Old, New}
 
@@ -133,6 +134,14 @@ module _ (form : Form) (body : List ℕ) (wide : length body ≡ lineBodyWidth f
       go Old w = unfold frontOf lineBodyWidth in length-append body (unsaved (getD body markAt 0)) ∙ rw (w, unsaved-wide (getD body markAt 0)) refl
       go New w = unfold frontOf lineBodyWidth in w
 
+  -- the body is the front of it
+  pub front-body : take (lineBodyWidth form) (frontOf form body) ≡ body
+  front-body = go form wide
+    where
+      go : (f : Form) → length body ≡ lineBodyWidth f → take (lineBodyWidth f) (frontOf f body) ≡ body
+      go Old w = unfold frontOf lineBodyWidth in take-at body (unsaved (getD body markAt 0)) messageAt w
+      go New w = unfold frontOf in take-all (lineBodyWidth New) body (omega arith)
+
   -- of it the old form has so much as of the body, and the new form all
   pub old-part : (to : Form) → to ≡ Old → take (lineBodyWidth to) (frontOf form body) ≡ take messageAt body
   old-part to e = rw (old-width to e) front-kept
@@ -150,6 +159,14 @@ old-report body wide =
     let n : leAt (body ++ u) messageAt 2 ≡ unsavedMessage mark = number-past body u messageAt wide 0 2 ∙ unsaved-number mark in
     let d : slice expectedAt frontWidth (body ++ u) ≡ blankDate = part-past body u messageAt wide 2 unsavedWidth ∙ unsaved-date mark in
     rw (m, n, d) (unsaved-goes mark)
+
+-- and its message is no number
+pub old-number : (body : List ℕ) → length body ≡ messageAt → isNumbered (frontOf Old body) ≡ false
+unfolding isNumbered frontOf unsavedMessage
+old-number body wide =
+    let mark : ℕ = getD body markAt 0 in
+    let n : leAt (body ++ unsaved mark) messageAt 2 ≡ unsavedMessage mark = number-past body (unsaved mark) messageAt wide 0 2 ∙ unsaved-number mark in
+    rw n (split (eqb mark noMark) (λ e. rw e refl) (λ e. rw e refl))
 
 -- message and blanks, stored one after the other
 pub unsaved-stored : (d : List ℕ) (at mark : ℕ) → sets (sets d at (leBytes 2 (unsavedMessage mark))) (at + 2) blankDate ≡ sets d at (unsaved mark)
