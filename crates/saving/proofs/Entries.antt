@@ -1,19 +1,22 @@
--- The entries of a save, stored one after the other.
-use mathlib.Core.Path.{_≡_, refl}
-use mathlib.Core.List.{List, _∷_, _++_}
-use Prim.Native.Nat.{ℕ, suc, _+_, _*_, _≤_}
+-- The entries of a save, how long they are and stored one after the other.
+use mathlib.Core.Path.{_≡_, _∙_, refl}
+use mathlib.Core.List.{List, _∷_}
+use Prim.Native.Nat.{ℕ, suc, _+_, _*_, _≤_, _<_}
 use native.Mathlib.Numerals.{add-one}
 use native.Mathlib.Omega.{arith}
-use lib.ListN.{length, getD, set, length-append}
-use lib.Seq.{slice, sets, length-slice}
+use lib.ListN.{length, set, take, length-append}
+use lib.Seq.{sets, length-slice, length-take-le}
 use Rattle.cells.specs.Little.{leBytes}
 use Rattle.cells.proofs.Stores.{sets-append}
+use Rattle.entry.specs.Stored.{lineWidth, slipWidth, arrivedAt}
 use Rattle.save.specs.Entries.{arrivedOn}
-use Rattle.entry.specs.Report.{blankDate}
-use Rattle.entry.specs.Stored.{lineWidth, markAt, messageAt, expectedAt, arrivedAt}
-use Rattle.save.specs.Saved.{lineBodyWidth, savedLineWidth, endKind, endEntry, lineIn, slipIn}
-use Rattle.save.specs.Load.{unsavedMessage, unsaved, lineFrom, loadedLine}
-use Rattle.save.proofs.Bodies.{line-long}
+use Rattle.save.specs.Form.{frontWidth, lineKind, lineBodyWidth, savedLineWidth, slipsAt}
+use Rattle.save.specs.Saved.{slipKind, slipBodyWidth, savedSlipWidth, endKind, lineFrontAt, slipBodyAt, lineEntries, slipEntries, endEntry, lineIn, slipIn}
+use Rattle.save.specs.Load.{lineFrom, loadedLine}
+use Rattle.save.specs.declared.form.Form.{Form}
+use Rattle.save.proofs.Bodies.{entry-wide, line-long}
+use Rattle.save.proofs.Fronts.{width-most}
+use Rattle.save.proofs.Joined.{joined-length}
 
 -- the end
 pub end-stored : (d : List ℕ) (at n m : ℕ) → sets (sets (set d at endKind) (at + 1) (leBytes 2 n)) (at + 3) (leBytes 2 m) ≡ sets d at (endEntry n m)
@@ -22,25 +25,41 @@ end-stored d at n m =
     let e : at + 3 ≡ suc (suc (suc at)) = omega arith in
     rw (add-one at, e) refl
 
--- a body of w bytes behind its byte of kind is an entry of w + 1
-pub entry-long : (kind p w : ℕ) (book : List ℕ) → p + w ≤ length book → length (kind ∷ slice p (p + w) book) ≡ w + 1
-entry-long kind p w book h = omega (arith, length-slice p (p + w) book h)
+-- the front of a line that stands in the book, and a slip
+pub front-at-long : (lines : List ℕ) (i : ℕ) → lineWidth * i + frontWidth ≤ length lines → length (lineFrontAt lines i) ≡ frontWidth
+unfolding lineFrontAt
+front-at-long lines i h = length-slice (lineWidth * i) (lineWidth * i + frontWidth) lines h ∙ omega arith
 
--- a line's body, the message and the date that were not saved, then A
-pub line-stored : (d : List ℕ) (at : ℕ) (body : List ℕ) (arrived : ℕ) → length body ≡ lineBodyWidth
-    → sets (sets (sets (sets d at body) (at + messageAt) (leBytes 2 (unsavedMessage (getD body markAt 0)))) (at + expectedAt) blankDate) (at + arrivedAt) (leBytes 4 arrived)
-    ≡ sets d at (lineFrom body arrived)
-unfolding lineFrom unsaved leBytes
-line-stored d at body arrived e =
-    let p : at + expectedAt ≡ suc (suc (at + messageAt)) = omega arith in
-    let q : at + arrivedAt ≡ suc (suc (suc (suc (suc (suc (suc (suc (suc (suc (at + messageAt)))))))))) = omega arith in
-    rw (sets-append d at body (unsaved (getD body markAt 0) ++ leBytes 4 arrived), e, p, q)
+pub slip-at-long : (slips : List ℕ) (j : ℕ) → slipWidth * j + slipBodyWidth ≤ length slips → length (slipBodyAt slips j) ≡ slipBodyWidth
+unfolding slipBodyAt
+slip-at-long slips j h = length-slice (slipWidth * j) (slipWidth * j + slipBodyWidth) slips h ∙ omega arith
+
+-- the entry of a line by its front, in either form
+pub line-entry-long : (form : Form) (front : List ℕ) → length front ≡ frontWidth → length (lineKind form ∷ take (lineBodyWidth form) front) ≡ savedLineWidth form
+line-entry-long form front e =
+    omega (arith, entry-wide form, length-take-le (lineBodyWidth form) front (omega (arith, e, width-most form)))
+
+-- all lines, and all slips
+pub lines-long : (form : Form) (line : ℕ → List ℕ) (n : ℕ) → ((i : ℕ) → i < n → length (line i) ≡ frontWidth) → length (lineEntries form line n) ≡ slipsAt form n
+unfolding lineEntries slipsAt
+lines-long form line n h =
+    joined-length (λ i. lineKind form ∷ take (lineBodyWidth form) (line i)) (savedLineWidth form) n 0 (λ i x y. line-entry-long form (line i) (h i (omega arith)))
+
+pub slips-long : (slip : ℕ → List ℕ) (m : ℕ) → ((j : ℕ) → j < m → length (slip j) ≡ slipBodyWidth) → length (slipEntries slip m) ≡ savedSlipWidth * m
+unfolding slipEntries
+slips-long slip m h = joined-length (λ j. slipKind ∷ slip j) savedSlipWidth m 0 (λ j x y. omega (arith, h j (omega arith)))
+
+-- a line's front, then A
+pub line-stored : (d : List ℕ) (at : ℕ) (front : List ℕ) (arrived : ℕ) → length front ≡ frontWidth
+    → sets (sets d at front) (at + arrivedAt) (leBytes 4 arrived) ≡ sets d at (lineFrom front arrived)
+unfolding lineFrom
+line-stored d at front arrived e = rw (sets-append d at front (leBytes 4 arrived), e)
 
 -- and how long it is
-pub from-long : (body : List ℕ) (arrived : ℕ) → length body ≡ lineBodyWidth → length (lineFrom body arrived) ≡ lineWidth
-unfolding lineFrom unsaved leBytes
-from-long body arrived e = rw (length-append body (unsaved (getD body markAt 0) ++ leBytes 4 arrived), e)
+pub from-long : (front : List ℕ) (arrived : ℕ) → length front ≡ frontWidth → length (lineFrom front arrived) ≡ lineWidth
+unfolding lineFrom leBytes
+from-long front arrived e = rw (length-append front (leBytes 4 arrived), e)
 
-pub loaded-long : (s : List ℕ) (n m i : ℕ) → savedLineWidth * i + savedLineWidth ≤ length s → length (loadedLine s n m i) ≡ lineWidth
+pub loaded-long : (form : Form) (s : List ℕ) (n m i : ℕ) → savedLineWidth form * i + savedLineWidth form ≤ length s → length (loadedLine form s n m i) ≡ lineWidth
 unfolding loadedLine
-loaded-long s n m i h = from-long (lineIn s i) (arrivedOn (slipIn s n) m i) (line-long s i h)
+loaded-long form s n m i h = from-long (lineIn form s i) (arrivedOn (slipIn s (slipsAt form n)) m i) (line-long form s i h)

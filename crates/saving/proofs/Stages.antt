@@ -1,7 +1,7 @@
 -- Saving and loading, stage by stage.
 use mathlib.Core.Path.{_≡_, _∙_, ap, sym}
 use mathlib.Core.Bool.{Bool, true, false, not, _&&_, _||_}
-use mathlib.Core.List.{List, _∷_, _++_}
+use mathlib.Core.List.{List, _++_}
 use Prim.Native.Nat.{ℕ, _+_, _*_, _≤_, _<_}
 use native.Mathlib.Omega.{arith}
 use borrow.Author.Tests.{le-leb, lt-leb, le-ltb, lt-ltb, leb-true, leb-false}
@@ -11,15 +11,16 @@ use lib.Seq.{sets}
 use Rattle.cells.proofs.Stores.{sets-append}
 use Rattle.book.specs.Lent.{Lent, usedLines, usedSlips, lineRoom, slipRoom, sound, roomsSound}
 use Rattle.book.proofs.Sounds.{sound-so}
-use Rattle.entry.specs.Stored.{lineWidth}
-use Rattle.save.specs.Saved.{written, lineBodyWidth, savedLineWidth, savedSlipWidth, lineKind, slipKind, lineBodyAt, slipBodyAt, lineEntries, slipEntries, endEntry, savedForm, savedWidth, endWidth, notSaved, save, statedLines, statedSlips, lineIn, slipIn, inForm, isSave}
+use Rattle.save.specs.Form.{slipsAt}
+use Rattle.save.specs.Saved.{written, savedSlipWidth, lineFrontAt, slipBodyAt, lineEntries, slipEntries, endEntry, formed, savedForm, savedWidth, endWidth, notSaved, savedAs, save, statedLines, statedSlips, lineIn, slipIn, inForm, isSaveOf, isSave, formIn}
 use Rattle.save.specs.Entries.{entriesKept}
 use Rattle.save.specs.Load.{outcome, lentLoaded, notLoaded, doneAs, load}
 use Rattle.save.proofs.Forms.{form-long}
 use Rattle.cells.proofs.Bools.{split, and-left, and-right}
 use Rattle.save.specs.declared.answer.Refused.the-variants.{Unsound, NoSave, TooSmall}
-use Rattle.save.proofs.Joined.{joined-length}
-use Rattle.saving.proofs.Entries.{entry-long}
+use Rattle.save.specs.declared.form.Form.{Form}
+use Rattle.save.specs.declared.form.Form.the-variants.{New}
+use Rattle.saving.proofs.Entries.{front-at-long, slip-at-long, lines-long, slips-long}
 
 module _ (b : Lent) (out : List ℕ) where
   -- 20
@@ -29,34 +30,35 @@ module _ (b : Lent) (out : List ℕ) where
 
   module _ (h : sound b ≡ true) where
     -- 23
-    pub save-small : length out < savedWidth (usedLines b) (usedSlips b) → save b out ≡ written (notSaved TooSmall) out
+    pub save-small : length out < savedWidth New (usedLines b) (usedSlips b) → save b out ≡ written (notSaved TooSmall) out
     unfolding save
-    save-small e = rw (h, lt-leb (savedWidth (usedLines b) (usedSlips b)) (length out) e)
+    save-small e = rw (h, lt-leb (savedWidth New (usedLines b) (usedSlips b)) (length out) e)
 
-    pub save-done : savedWidth (usedLines b) (usedSlips b) ≤ length out
-        → save b out ≡ written (record { answer = 0; place = 0; length = savedWidth (usedLines b) (usedSlips b) }) (sets out 0 (savedForm b))
+    pub save-done : savedWidth New (usedLines b) (usedSlips b) ≤ length out
+        → save b out ≡ written (savedAs (savedWidth New (usedLines b) (usedSlips b))) (sets out 0 (savedForm b))
     unfolding save
-    save-done e = rw (h, le-leb (savedWidth (usedLines b) (usedSlips b)) (length out) e)
+    save-done e = rw (h, le-leb (savedWidth New (usedLines b) (usedSlips b)) (length out) e)
 
     -- lines, slips and the end stored one after the other are the saved form
-    pub form-stored : sets (sets (sets out 0 (lineEntries (b .lines) (usedLines b))) (savedLineWidth * usedLines b) (slipEntries (b .slips) (usedSlips b))) (savedLineWidth * usedLines b + savedSlipWidth * usedSlips b) (endEntry (usedLines b) (usedSlips b))
+    pub form-stored : sets (sets (sets out 0 (lineEntries New (lineFrontAt (b .lines)) (usedLines b))) (slipsAt New (usedLines b)) (slipEntries (slipBodyAt (b .slips)) (usedSlips b))) (slipsAt New (usedLines b) + savedSlipWidth * usedSlips b) (endEntry (usedLines b) (usedSlips b))
         ≡ sets out 0 (savedForm b)
-    unfolding savedForm lineEntries slipEntries lineBodyAt slipBodyAt
+    unfolding savedForm formed
     form-stored =
         let say = sound-so b h in
         let n : ℕ = usedLines b in
         let m : ℕ = usedSlips b in
-        let ls : List ℕ = lineEntries (b .lines) n in
-        let ts : List ℕ = slipEntries (b .slips) m in
-        let l : length ls ≡ savedLineWidth * n = joined-length (λ i. lineKind ∷ lineBodyAt (b .lines) i) 53 n 0 (λ i x y. entry-long lineKind (lineWidth * i) lineBodyWidth (b .lines) (omega (arith, say .lines-in))) in
-        let t : length ts ≡ savedSlipWidth * m = joined-length (λ j. slipKind ∷ slipBodyAt (b .slips) j) 51 m 0 (λ j x y. entry-long slipKind (50 * j) 50 (b .slips) (omega (arith, say .slips-in))) in
-        let at-slips : 0 + length ls ≡ savedLineWidth * n = omega (arith, l) in
-        let at-end : savedLineWidth * n + length ts ≡ savedLineWidth * n + savedSlipWidth * m = omega (arith, t) in
+        let at : ℕ = slipsAt New n in
+        let ls : List ℕ = lineEntries New (lineFrontAt (b .lines)) n in
+        let ts : List ℕ = slipEntries (slipBodyAt (b .slips)) m in
+        let l : length ls ≡ at = lines-long New (lineFrontAt (b .lines)) n (λ i x. front-at-long (b .lines) i (omega (arith, say .lines-in))) in
+        let t : length ts ≡ savedSlipWidth * m = slips-long (slipBodyAt (b .slips)) m (λ j x. slip-at-long (b .slips) j (omega (arith, say .slips-in))) in
+        let at-slips : 0 + length ls ≡ at = omega (arith, l) in
+        let at-end : at + length ts ≡ at + savedSlipWidth * m = omega (arith, t) in
         sym
         (sets-append out 0 ls (ts ++ endEntry n m)
         ∙ ap (λ (k : ℕ). sets (sets out 0 ls) k (ts ++ endEntry n m)) at-slips
-        ∙ sets-append (sets out 0 ls) (savedLineWidth * n) ts (endEntry n m)
-        ∙ ap (λ (k : ℕ). sets (sets (sets out 0 ls) (savedLineWidth * n) ts) k (endEntry n m)) at-end)
+        ∙ sets-append (sets out 0 ls) at ts (endEntry n m)
+        ∙ ap (λ (k : ℕ). sets (sets (sets out 0 ls) at ts) k (endEntry n m)) at-end)
 
 -- too small a room is one that does not fit
 pub small-either : (n r m q : ℕ) → leb n r && leb m q ≡ not (ltb r n || ltb q m)
@@ -88,14 +90,16 @@ module _ (s : List ℕ) (b : Lent) where
       load-small f = rw (h, e, f)
 
       pub load-done : leb (statedLines s) (lineRoom b) && leb (statedSlips s) (slipRoom b) ≡ true
-          → load s b ≡ outcome doneAs (lentLoaded s (statedLines s) (statedSlips s) b)
+          → load s b ≡ outcome doneAs (lentLoaded (formIn s) s (statedLines s) (statedSlips s) b)
       unfolding load
       load-done f = rw (h, e, f)
 
 -- the end of a save, and the entries that it states, stand in it
-pub save-long : (s : List ℕ) → isSave s ≡ true → (endWidth ≤ length s) × (savedLineWidth * statedLines s + savedSlipWidth * statedSlips s ≤ length s)
-unfolding isSave
-save-long s e =
-    let rest : Bool = inForm (statedLines s) (statedSlips s) s && entriesKept (statedLines s) (statedSlips s) (lineIn s) (slipIn s (statedLines s)) in
-    let form : inForm (statedLines s) (statedSlips s) s ≡ true = and-left _ _ (and-right (leb endWidth (length s)) rest e) in
-    (leb-true _ _ (and-left (leb endWidth (length s)) rest e), omega (arith, form-long (statedLines s) (statedSlips s) s form))
+pub save-long : (form : Form) (s : List ℕ) → isSaveOf form s ≡ true → (endWidth ≤ length s) × (slipsAt form (statedLines s) + savedSlipWidth * statedSlips s ≤ length s)
+unfolding isSaveOf
+save-long form s e =
+    let n : ℕ = statedLines s in
+    let m : ℕ = statedSlips s in
+    let rest : Bool = inForm form n m s && entriesKept n m (lineIn form s) (slipIn s (slipsAt form n)) in
+    let in-form : inForm form n m s ≡ true = and-left _ _ (and-right (leb endWidth (length s)) rest e) in
+    (leb-true _ _ (and-left (leb endWidth (length s)) rest e), omega (arith, form-long form n m s in-form))

@@ -12,42 +12,48 @@ use Rattle.cells.proofs.Bools.{is-not, is-so}
 use Rattle.entry.specs.Stored.{keyWidth}
 use Rattle.cells.proofs.Searches.{all-here, all-next, all-end}
 use Rattle.save.specs.Entries.{lineKept, isFirst, linesKept}
-use Rattle.save.specs.Saved.{savedLineWidth, lineIn}
-use Rattle.save.proofs.Bodies.{line-long}
+use Rattle.save.specs.Form.{savedLineWidth}
+use Rattle.save.specs.Saved.{lineIn}
+use Rattle.save.specs.declared.form.Form.{Form}
+use Rattle.save.proofs.Bodies.{body-long, line-before}
 use Rattle.saved.proofs.are_lines_kept.Statement.{statement}
 use Rattle.saved.proofs.are_lines_kept.Tie as tie
 
 -- the line at i keeps the rules, and no earlier line has its key
-abbrev kept : List ℕ → ℕ → Bool
-kept s i = lineKept (lineIn s i) && isFirst keyWidth (lineIn s) i
+abbrev kept : Form → List ℕ → ℕ → Bool
+kept form s i = lineKept (lineIn form s i) && isFirst keyWidth (lineIn form s) i
 
 abbrev Inv-loop : tie.InvT-loop
-Inv-loop s n i₀ i = (i ≤ n) × (linesKept n (lineIn s) ≡ allFrom (kept s) (n - i) i)
+Inv-loop s form n i₀ i = (i ≤ n) × (linesKept n (lineIn form s) ≡ allFrom (kept form s) (n - i) i)
 
 abbrev μ-loop : tie.MeasureT-loop
-μ-loop s n i₀ i = n - i
+μ-loop s form n i₀ i = n - i
 
 -- the line stands in the save
-stands : (c : tie.In-loop Inv-loop μ-loop) → savedLineWidth * (c .before .loop .i) + savedLineWidth ≤ length (now (c .before .before .before .args .s))
-stands c = omega arith
+stands : (c : tie.In-loop Inv-loop μ-loop)
+    → savedLineWidth (c .before .before .before .args .form) * c .before .loop .i + savedLineWidth (c .before .before .before .args .form) ≤ length (now (c .before .before .before .args .s))
+stands c =
+    let a = c .before .before .before in
+    omega (arith, a .pre, line-before (a .args .form) (c .before .loop .i) (a .args .n) (c .loop-test .taken))
 
 -- the two tests of the line
 told : (c : tie.After-is-first-line Inv-loop μ-loop)
-    → c .before .is-line-kept .result && c .is-first-line .result ≡ kept (now (c .before .before .before .before .before .before .args .s)) (c .before .before .before .before .loop .i)
-told c = rw (c .is-first-line .ensures, c .before .is-line-kept .ensures, c .before .before .line-in .ensures)
+    → c .before .is-line-kept .result && c .is-first-line .result ≡ kept (c .before .before .before .before .before .before .args .form) (now (c .before .before .before .before .before .before .args .s)) (c .before .before .before .before .loop .i)
+unfolding lineIn
+told c = rw (c .is-first-line .ensures, c .before .is-line-kept .ensures, c .before .before .body-in .ensures)
 
 loop-holds : tie.Need-loop-holds Inv-loop μ-loop
 unfolding linesKept
 loop-holds c = (omega arith, rw sub-zero)
 
-line-in-requires : tie.Need-line-in-requires Inv-loop μ-loop
-line-in-requires c κs = omega arith
+body-in-requires : tie.Need-body-in-requires Inv-loop μ-loop
+body-in-requires c κs = stands c
 
 is-line-kept-requires : tie.Need-is-line-kept-requires Inv-loop μ-loop
-is-line-kept-requires c κs = rw (c .line-in .ensures) (line-long _ (c .before .before .loop .i) (stands (c .before)))
+is-line-kept-requires c κs = rw (c .body-in .ensures) (body-long _ _ (c .before .before .loop .i) (stands (c .before)))
 
 is-first-line-requires : tie.Need-is-first-line-requires Inv-loop μ-loop
-is-first-line-requires c κs = omega arith
+is-first-line-requires c κs = stands (c .before .before)
 
 returns : tie.Need-returns Inv-loop μ-loop
 returns c =
@@ -75,7 +81,7 @@ are-lines-kept-spec =
     Inv-loop
     μ-loop
     loop-holds
-    line-in-requires
+    body-in-requires
     is-line-kept-requires
     is-first-line-requires
     returns

@@ -12,44 +12,49 @@ use Rattle.cells.proofs.Bools.{is-not, is-so}
 use Rattle.entry.specs.Stored.{slipKeyWidth}
 use Rattle.cells.proofs.Searches.{all-here, all-next, all-end}
 use Rattle.save.specs.Entries.{slipKept, isFirst, slipsKept}
-use Rattle.save.specs.Saved.{savedLineWidth, savedSlipWidth, lineIn, slipIn}
+use Rattle.save.specs.Form.{slipsAt}
+use Rattle.save.specs.Saved.{savedSlipWidth, lineIn, slipIn}
+use Rattle.save.specs.declared.form.Form.{Form}
 use Rattle.save.proofs.Bodies.{slip-long}
 use Rattle.saved.proofs.are_slips_kept.Statement.{statement}
 use Rattle.saved.proofs.are_slips_kept.Tie as tie
 
 -- the slip at j keeps the rules, and no earlier slip has its key
-abbrev kept : List ℕ → ℕ → ℕ → Bool
-kept s n j = slipKept n (lineIn s) (slipIn s n j) && isFirst slipKeyWidth (slipIn s n) j
+abbrev kept : Form → List ℕ → ℕ → ℕ → Bool
+kept form s n j = slipKept n (lineIn form s) (slipIn s (slipsAt form n) j) && isFirst slipKeyWidth (slipIn s (slipsAt form n)) j
 
 abbrev Inv-loop : tie.InvT-loop
-Inv-loop s n m j₀ j = (j ≤ m) × (slipsKept n m (lineIn s) (slipIn s n) ≡ allFrom (kept s n) (m - j) j)
+Inv-loop s form n m at j₀ j = (j ≤ m) × (slipsKept n m (lineIn form s) (slipIn s (slipsAt form n)) ≡ allFrom (kept form s n) (m - j) j)
 
 abbrev μ-loop : tie.MeasureT-loop
-μ-loop s n m j₀ j = m - j
+μ-loop s form n m at j₀ j = m - j
 
 -- the slip stands in the save
 stands : (c : tie.In-loop Inv-loop μ-loop)
-    → savedLineWidth * (c .before .before .before .args .n) + savedSlipWidth * (c .before .loop .j) + savedSlipWidth ≤ length (now (c .before .before .before .args .s))
-stands c = omega arith
+    → c .before .before .slips-at .result + savedSlipWidth * c .before .loop .j + savedSlipWidth ≤ length (now (c .before .before .before .before .args .s))
+stands c = omega (arith, c .before .before .slips-at .ensures, c .before .before .before .before .pre .0)
 
 -- the two tests of the slip
 told : (c : tie.After-is-first-slip Inv-loop μ-loop)
     → c .before .is-slip-kept .result && c .is-first-slip .result
-    ≡ kept (now (c .before .before .before .before .before .before .args .s)) (c .before .before .before .before .before .before .args .n) (c .before .before .before .before .loop .j)
-told c = rw (c .is-first-slip .ensures, c .before .is-slip-kept .ensures, c .before .before .slip-in .ensures)
+    ≡ kept (c .before .before .before .before .before .before .before .args .form) (now (c .before .before .before .before .before .before .before .args .s)) (c .before .before .before .before .before .before .before .args .n) (c .before .before .before .before .loop .j)
+told c = rw (c .is-first-slip .ensures, c .before .is-slip-kept .ensures, c .before .before .slip-in .ensures, c .before .before .before .before .before .slips-at .ensures)
+
+slips-at-requires : tie.Need-slips-at-requires Inv-loop μ-loop
+slips-at-requires c κs = c .before .pre .1
 
 loop-holds : tie.Need-loop-holds Inv-loop μ-loop
 unfolding slipsKept
 loop-holds c = (omega arith, rw sub-zero)
 
 slip-in-requires : tie.Need-slip-in-requires Inv-loop μ-loop
-slip-in-requires c κs = omega arith
+slip-in-requires c κs = stands c
 
 is-slip-kept-requires : tie.Need-is-slip-kept-requires Inv-loop μ-loop
-is-slip-kept-requires c κs = (omega arith, rw (c .slip-in .ensures) (slip-long _ _ (c .before .before .loop .j) (stands (c .before))))
+is-slip-kept-requires c κs = (omega (arith, c .before .before .before .before .before .pre .0), rw (c .slip-in .ensures) (slip-long _ _ (c .before .before .loop .j) (stands (c .before))))
 
 is-first-slip-requires : tie.Need-is-first-slip-requires Inv-loop μ-loop
-is-first-slip-requires c κs = omega arith
+is-first-slip-requires c κs = stands (c .before .before)
 
 returns : tie.Need-returns Inv-loop μ-loop
 returns c =
@@ -76,6 +81,7 @@ are-slips-kept-spec =
     (tie.spec
     Inv-loop
     μ-loop
+    slips-at-requires
     loop-holds
     slip-in-requires
     is-slip-kept-requires

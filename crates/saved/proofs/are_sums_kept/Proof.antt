@@ -18,13 +18,13 @@ use Rattle.saved.proofs.are_sums_kept.Tie as tie
 
 -- the sum of the line at i is not over the limit
 abbrev kept : List ℕ → ℕ → ℕ → ℕ → Bool
-kept s n m i = leb (arrivedOn (slipIn s n) m i) mostArrived
+kept s at m i = leb (arrivedOn (slipIn s at) m i) mostArrived
 
 abbrev Inv-loop : tie.InvT-loop
-Inv-loop s n m i₀ i = (i ≤ n) × (sumsKept n m (slipIn s n) ≡ allFrom (kept s n m) (n - i) i)
+Inv-loop s at n m i₀ i = (i ≤ n) × (sumsKept n m (slipIn s at) ≡ allFrom (kept s at m) (n - i) i)
 
 abbrev μ-loop : tie.MeasureT-loop
-μ-loop s n m i₀ i = n - i
+μ-loop s at n m i₀ i = n - i
 
 loop-holds : tie.Need-loop-holds Inv-loop μ-loop
 unfolding sumsKept

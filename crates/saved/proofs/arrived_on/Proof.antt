@@ -12,11 +12,11 @@ use Rattle.saved.proofs.arrived_on.Statement.{statement}
 use Rattle.saved.proofs.arrived_on.Tie as tie
 
 abbrev Inv-loop : tie.InvT-loop
-Inv-loop s n m i sum₀ j₀ sum j =
-    (j ≤ m) × (sum ≤ 65535 * j) × (arrivedOn (slipIn s n) m i ≡ sum + sumFrom (copiesOn (slipIn s n) i) (m - j) j)
+Inv-loop s at m i sum₀ j₀ sum j =
+    (j ≤ m) × (sum ≤ 65535 * j) × (arrivedOn (slipIn s at) m i ≡ sum + sumFrom (copiesOn (slipIn s at) i) (m - j) j)
 
 abbrev μ-loop : tie.MeasureT-loop
-μ-loop s n m i sum₀ j₀ sum j = m - j
+μ-loop s at m i sum₀ j₀ sum j = m - j
 
 loop-holds : tie.Need-loop-holds Inv-loop μ-loop
 unfolding arrivedOn

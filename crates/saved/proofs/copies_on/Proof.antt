@@ -8,17 +8,14 @@ use borrow.Author.Needs.{needs}
 use Rattle.saved.proofs.copies_on.Statement.{statement}
 use Rattle.saved.proofs.copies_on.Tie as tie
 
-mul-at : tie.Need-mul-at
-mul-at c = search needs
+mul-from : tie.Need-mul-from
+mul-from c = search needs
 
-mul-at-2 : tie.Need-mul-at-2
-mul-at-2 c = search needs
+add-from : tie.Need-add-from
+add-from c = search needs
 
-add-at : tie.Need-add-at
-add-at c = search needs
-
-add-at-2 : tie.Need-add-at-2
-add-at-2 c = search needs
+add-from-2 : tie.Need-add-from-2
+add-from-2 c = search needs
 
 add-get2 : tie.Need-add-get2
 add-get2 c = search needs
@@ -38,23 +35,22 @@ returns c =
     let is = c .get22 .ensures in
     let first = c .before .before in
     let a = first .before .before .args in
-    (rw (slip-number (a .s .now) (a .n) (a .j) 46 (omega arith), slip-number (a .s .now) (a .n) (a .j) 48 (omega arith), eq-eqb _ (a .i) (sym (first .get2 .ensures .is) ∙ c .before .if1 .taken), is .is), is .small)
+    (rw (slip-number (a .s .now) (a .at) (a .j) 46 (omega arith), slip-number (a .s .now) (a .at) (a .j) 48 (omega arith), eq-eqb _ (a .i) (sym (first .get2 .ensures .is) ∙ c .before .if1 .taken), is .is), is .small)
 
 returns-2 : tie.Need-returns-2
 unfolding copiesOn lineIndex slipCopies
 returns-2 c =
     let first = c .before in
     let a = first .before .before .args in
-    (rw (slip-number (a .s .now) (a .n) (a .j) 46 (omega arith), ne-eqb _ (a .i) (λ e. c .if1 .left (first .get2 .ensures .is ∙ e))), omega arith)
+    (rw (slip-number (a .s .now) (a .at) (a .j) 46 (omega arith), ne-eqb _ (a .i) (λ e. c .if1 .left (first .get2 .ensures .is ∙ e))), omega arith)
 
 pub copies-on-spec : {M : Type 1} → statement M
 copies-on-spec =
     tie.close
     (tie.spec
-    mul-at
-    mul-at-2
-    add-at
-    add-at-2
+    mul-from
+    add-from
+    add-from-2
     add-get2
     get2-requires
     add-get2-2

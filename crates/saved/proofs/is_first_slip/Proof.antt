@@ -19,14 +19,14 @@ use Rattle.saved.proofs.is_first_slip.Statement.{statement}
 use Rattle.saved.proofs.is_first_slip.Tie as tie
 
 abbrev Inv-loop : tie.InvT-loop
-Inv-loop s n j key e₀ e = (e ≤ j) × (isFirst slipKeyWidth (slipIn s n) j ≡ allFrom (differs slipKeyWidth (slipIn s n) j) (j - e) e)
+Inv-loop s at j key e₀ e = (e ≤ j) × (isFirst slipKeyWidth (slipIn s at) j ≡ allFrom (differs slipKeyWidth (slipIn s at) j) (j - e) e)
 
 abbrev μ-loop : tie.MeasureT-loop
-μ-loop s n j key e₀ e = j - e
+μ-loop s at j key e₀ e = j - e
 
 -- the test compares the key of the earlier slip with that of the slip at j
 told : (c : tie.After-same-by Inv-loop μ-loop)
-    → c .same-by .result ≡ same (take slipKeyWidth (slipIn (now (c .before .before .before .before .before .before .args .s)) (c .before .before .before .before .before .before .args .n) (c .before .before .before .loop .e))) (take slipKeyWidth (slipIn (now (c .before .before .before .before .before .before .args .s)) (c .before .before .before .before .before .before .args .n) (c .before .before .before .before .before .before .args .j)))
+    → c .same-by .result ≡ same (take slipKeyWidth (slipIn (now (c .before .before .before .before .before .before .args .s)) (c .before .before .before .before .before .before .args .at) (c .before .before .before .loop .e))) (take slipKeyWidth (slipIn (now (c .before .before .before .before .before .before .args .s)) (c .before .before .before .before .before .before .args .at) (c .before .before .before .before .before .before .args .j)))
 told c = rw (c .same-by .ensures, c .before .slip-key-in2 .ensures, c .before .before .before .before .slip-key-in .ensures)
 
 slip-key-in-requires : tie.Need-slip-key-in-requires Inv-loop μ-loop
@@ -43,7 +43,7 @@ same-by-requires : tie.Need-same-by-requires Inv-loop μ-loop
 same-by-requires c κs =
     let l = c .before .before .loop in
     let a = c .before .before .before .before .before .args in
-    rw (c .slip-key-in2 .ensures) (omega (arith, slip-key-long (a .s .now) (a .n) (l .e) (omega arith)))
+    rw (c .slip-key-in2 .ensures) (omega (arith, slip-key-long (a .s .now) (a .at) (l .e) (omega arith)))
 
 returns : tie.Need-returns Inv-loop μ-loop
 returns c =

@@ -1,7 +1,7 @@
 -- `saving::load` meets its contract, stage by stage.
 use mathlib.Core.Path.{_≡_, _∙_, ap, ap₂, sym}
 use mathlib.Core.Bool.{Bool, true, not, _&&_, _||_}
-use Prim.Native.Nat.{_/_, _≤_}
+use Prim.Native.Nat.{_+_, _*_, _/_, _≤_}
 use native.Mathlib.Omega.{arith}
 use lib.Dec.{ltb, leb}
 use lib.ListN.{length}
@@ -9,7 +9,9 @@ use borrow.Author.Tests.{leb-true}
 use Rattle.cells.proofs.Bools.{is-not, is-so, and-left, and-right}
 use Rattle.entry.specs.Stored.{lineWidth, slipWidth}
 use Rattle.book.specs.Lent.{lent, lineRoom, slipRoom, roomsSound}
-use Rattle.save.specs.Saved.{statedLines, statedSlips, isSave}
+use Rattle.save.specs.Form.{slipsAt}
+use Rattle.save.specs.Saved.{savedSlipWidth, statedLines, statedSlips, isSaveOf, isSave}
+use Rattle.save.proofs.Forms.{either-form}
 use Rattle.saving.proofs.Stages.{small-either, load-unsound, load-no-save, load-small, load-done, save-long}
 use borrow.Author.Needs.{needs}
 use Rattle.saving.proofs.load.Statement.{statement}
@@ -25,26 +27,40 @@ rooms c = ap₂ (λ (x y : Bool). x && y) (c .before .is-room .ensures) (c .is-r
 rooms-sound : (c : tie.Else1) → let a = c .before .before .before .before .before .before .args in roomsSound (lent (a .lines .now) (a .slips .now) (a .used .now)) ≡ true
 rooms-sound c = is-so (rooms (c .before)) (c .if1 .left)
 
--- and the bytes are a save once this one is
-is-saved : (c : tie.Else2) → isSave (c .before .before .before .before .before .before .before .before .args .saved .now) ≡ true
-is-saved c = is-so (c .before .is-save .ensures) (c .if2 .left)
+-- the bytes are judged as a save of the form by which they are taken
+judged : (c : tie.After-is-save-of) → c .is-save-of .result ≡ isSave (c .before .before .before .before .before .before .before .before .args .saved .now)
+judged c = rw (c .is-save-of .ensures, c .before .form-in .ensures) (sym (either-form _))
+
+-- they are a save once this test is passed, of that form
+is-saved : (c : tie.Else2) → isSave (c .before .before .before .before .before .before .before .before .before .args .saved .now) ≡ true
+is-saved c = is-so (judged (c .before)) (c .if2 .left)
+
+of-form : (c : tie.Else2) → isSaveOf (c .before .before .form-in .result) (c .before .before .before .before .before .before .before .before .before .args .saved .now) ≡ true
+of-form c = is-so (c .before .is-save-of .ensures) (c .if2 .left)
 
 -- the counts that are read are those that the save states
-lines-read : (c : tie.After-get2) → c .get2 .result ≡ statedLines (c .before .before .before .before .before .before .before .before .before .args .saved .now)
+lines-read : (c : tie.After-get2) → c .get2 .result ≡ statedLines (c .before .before .before .before .before .before .before .before .before .before .args .saved .now)
 unfolding statedLines
 lines-read c = c .get2 .ensures .is
 
-slips-read : (c : tie.After-get22) → c .get22 .result ≡ statedSlips (c .before .before .before .before .before .before .before .before .before .before .args .saved .now)
+slips-read : (c : tie.After-get22) → c .get22 .result ≡ statedSlips (c .before .before .before .before .before .before .before .before .before .before .before .args .saved .now)
 unfolding statedSlips
 slips-read c = c .get22 .ensures .is
 
+-- the lines and slips stand in it
+long : (c : tie.After-get22)
+    → slipsAt (c .before .before .before .before .form-in .result) (c .before .get2 .result) + savedSlipWidth * c .get22 .result ≤ length (c .before .before .before .before .before .before .before .before .before .before .before .args .saved .now)
+long c =
+    let saved = c .before .before in
+    rw (lines-read (c .before), slips-read c) (save-long _ _ (of-form saved) .1)
+
 -- whether they fit, as the code tests it
-fits : (c : tie.After-get22) → let a = c .before .before .before .before .before .before .before .before .before .before .args in
+fits : (c : tie.After-get22) → let a = c .before .before .before .before .before .before .before .before .before .before .before .args in
     leb (statedLines (a .saved .now)) (lineRoom (lent (a .lines .now) (a .slips .now) (a .used .now))) && leb (statedSlips (a .saved .now)) (slipRoom (lent (a .lines .now) (a .slips .now) (a .used .now)))
     ≡ not (ltb (length (a .lines .now) / lineWidth) (c .before .get2 .result) || ltb (length (a .slips .now) / slipWidth) (c .get22 .result))
 unfolding lineRoom slipRoom
 fits c =
-    let a = c .before .before .before .before .before .before .before .before .before .before .args in
+    let a = c .before .before .before .before .before .before .before .before .before .before .before .args in
     rw (lines-read (c .before), slips-read c) (small-either (statedLines (a .saved .now)) (length (a .lines .now) / lineWidth) (statedSlips (a .saved .now)) (length (a .slips .now) / slipWidth))
 
 is-room-requires : tie.Need-is-room-requires
@@ -61,8 +77,11 @@ returns c =
     let then = c .before in
     rw (c .not-loaded .ensures) (sym (load-unsound _ _ (is-not (rooms (then .before)) (then .if1 .taken))))
 
-is-save-requires : tie.Need-is-save-requires
-is-save-requires c κs = search needs
+form-in-requires : tie.Need-form-in-requires
+form-in-requires c κs = search needs
+
+is-save-of-requires : tie.Need-is-save-of-requires
+is-save-of-requires c κs = search needs
 
 not-loaded-requires-2 : tie.Need-not-loaded-requires-2
 not-loaded-requires-2 c κs = search needs
@@ -70,19 +89,19 @@ not-loaded-requires-2 c κs = search needs
 returns-2 : tie.Need-returns-2
 returns-2 c =
     let then = c .before in
-    rw (c .not-loaded2 .ensures) (sym (load-no-save _ _ (rooms-sound (then .before .before)) (is-not (then .before .is-save .ensures) (then .if2 .taken))))
+    rw (c .not-loaded2 .ensures) (sym (load-no-save _ _ (rooms-sound (then .before .before .before)) (is-not (judged (then .before)) (then .if2 .taken))))
 
 sub-get2 : tie.Need-sub-get2
-sub-get2 c = omega (arith, save-long _ (is-saved c) .0)
+sub-get2 c = omega (arith, save-long _ _ (of-form c) .0)
 
 get2-requires : tie.Need-get2-requires
-get2-requires c κs = omega (arith, save-long _ (is-saved c) .0)
+get2-requires c κs = omega (arith, save-long _ _ (of-form c) .0)
 
 sub-get2-2 : tie.Need-sub-get2-2
-sub-get2-2 c = omega (arith, save-long _ (is-saved (c .before)) .0)
+sub-get2-2 c = omega (arith, save-long _ _ (of-form (c .before)) .0)
 
 get2-requires-2 : tie.Need-get2-requires-2
-get2-requires-2 c κs = omega (arith, save-long _ (is-saved (c .before)) .0)
+get2-requires-2 c κs = omega (arith, save-long _ _ (of-form (c .before)) .0)
 
 not-loaded-requires-3 : tie.Need-not-loaded-requires-3
 not-loaded-requires-3 c κs = search needs
@@ -93,22 +112,20 @@ returns-3 c =
     let read = then .before in
     let saved = read .before .before in
     rw (c .not-loaded3 .ensures)
-    (sym (load-small _ _ (rooms-sound (saved .before .before)) (is-saved saved) (fits read ∙ ap not (then .if3 .taken))))
+    (sym (load-small _ _ (rooms-sound (saved .before .before .before)) (is-saved saved) (fits read ∙ ap not (then .if3 .taken))))
 
 fill-requires : tie.Need-fill-requires
 unfolding lineRoom slipRoom
 fill-requires c κs =
     let else = c .before .before .before in
     let read = else .before in
-    let a = read .before .before .before .before .before .before .before .before .before .before .args in
-    let saved = read .before .before in
+    let a = read .before .before .before .before .before .before .before .before .before .before .before .args in
     let both = fits read ∙ ap not (else .if3 .left) in
     let n = lines-read (read .before) in
     let m = slips-read read in
     let few : statedLines (a .saved .now) ≤ length (a .lines .now) / lineWidth = leb-true _ _ (and-left _ _ both) in
     let few-slips : statedSlips (a .saved .now) ≤ length (a .slips .now) / slipWidth = leb-true _ _ (and-right (leb (statedLines (a .saved .now)) (length (a .lines .now) / lineWidth)) _ both) in
-    let long = save-long (a .saved .now) (is-saved saved) .1 in
-    (omega arith, read .get22 .ensures .small, omega arith, omega arith)
+    (long read, read .before .get2 .ensures .small, read .get22 .ensures .small, omega arith, omega arith)
 
 same-length : tie.Need-same-length
 same-length c = search needs
@@ -121,8 +138,8 @@ returns-4 c =
     let filled = c .before .before .before .before in
     let read = filled .before .before .before .before .before in
     let saved = read .before .before in
-    rw (filled .fill .ensures, lines-read (read .before), slips-read read)
-    (sym (load-done _ _ (rooms-sound (saved .before .before)) (is-saved saved) (fits read ∙ ap not (filled .before .before .before .before .if3 .left))))
+    rw (filled .fill .ensures, lines-read (read .before), slips-read read, saved .before .before .form-in .ensures)
+    (sym (load-done _ _ (rooms-sound (saved .before .before .before)) (is-saved saved) (fits read ∙ ap not (filled .before .before .before .before .if3 .left))))
 
 pub load-spec : {M : Type 1} → statement M
 load-spec =
@@ -132,7 +149,8 @@ load-spec =
     is-room-requires-2
     not-loaded-requires
     returns
-    is-save-requires
+    form-in-requires
+    is-save-of-requires
     not-loaded-requires-2
     returns-2
     sub-get2

@@ -13,11 +13,11 @@ use Rattle.saving.proofs.input.take_slips.Statement.{statement}
 use Rattle.saving.proofs.input.take_slips.Tie as tie
 
 abbrev Inv-loop : tie.InvT-loop
-Inv-loop saved n m slips₀ j₀ slips j =
-    (j ≤ m) × (length slips ≡ length slips₀) × (sets slips₀ 0 (joinedFrom (slipIn saved n) m 0) ≡ sets slips (50 * j) (joinedFrom (slipIn saved n) (m - j) j))
+Inv-loop saved at m slips₀ j₀ slips j =
+    (j ≤ m) × (length slips ≡ length slips₀) × (sets slips₀ 0 (joinedFrom (slipIn saved at) m 0) ≡ sets slips (50 * j) (joinedFrom (slipIn saved at) (m - j) j))
 
 abbrev μ-loop : tie.MeasureT-loop
-μ-loop saved n m slips₀ j₀ slips j = m - j
+μ-loop saved at m slips₀ j₀ slips j = m - j
 
 loop-holds : tie.Need-loop-holds Inv-loop μ-loop
 loop-holds c = (omega arith, refl, rw sub-zero)
@@ -30,14 +30,14 @@ slip-in-requires c κs = omega arith
 
 -- the slip that is taken stands in the save
 stands : (c : tie.After-slip-in Inv-loop μ-loop)
-    → 53 * c .before .before .before .before .before .before .args .n + 51 * c .before .before .before .loop .j + 51 ≤ length (c .before .before .before .before .before .before .args .saved .now)
+    → c .before .before .before .before .before .before .args .at + 51 * c .before .before .before .loop .j + 51 ≤ length (c .before .before .before .before .before .before .args .saved .now)
 stands c = omega arith
 
 paste-at-requires : tie.Need-paste-at-requires Inv-loop μ-loop
 paste-at-requires c κs =
     let l = c .before .before .before .loop in
     let a = c .before .before .before .before .before .before .args in
-    let e = slip-long (a .saved .now) (a .n) (l .j) (stands c) in
+    let e = slip-long (a .saved .now) (a .at) (l .j) (stands c) in
     rw (c .slip-in .ensures) (omega arith)
 
 add-j : tie.Need-add-j Inv-loop μ-loop
@@ -56,7 +56,7 @@ loop-again c =
       omega arith,
       paste .paste-at .kept .0 ∙ l .inv .1,
       l .inv .2
-          ∙ (joined-next (slipIn (a .saved .now) (a .n)) (a .m) (l .j) (l .slips) (50 * l .j) 50 (omega arith) (slip-long _ _ _ (stands (paste .before)))
+          ∙ (joined-next (slipIn (a .saved .now) (a .at)) (a .m) (l .j) (l .slips) (50 * l .j) 50 (omega arith) (slip-long _ _ _ (stands (paste .before)))
           ∙ rw (at, paste .paste-at .ensures, paste .before .slip-in .ensures)),
     )
 

@@ -9,7 +9,7 @@ use lib.Seq.{sets}
 use Rattle.cells.proofs.Parts.{part-is}
 use Rattle.save.specs.Saved.{slipKind, joinedFrom, slipBodyAt, slipEntries}
 use Rattle.save.proofs.Joined.{joined-next, joined-end}
-use Rattle.saving.proofs.Entries.{entry-long}
+use Rattle.saving.proofs.Entries.{slip-at-long}
 use borrow.Author.Needs.{needs}
 use Rattle.saving.proofs.output.put_slips.Statement.{statement}
 use Rattle.saving.proofs.output.put_slips.Tie as tie
@@ -18,7 +18,7 @@ abbrev Inv-loop : tie.InvT-loop
 Inv-loop out₀ start slips m j₀ out j =
     (j ≤ m)
     × (length out ≡ length out₀)
-    × (sets out₀ start (slipEntries slips m) ≡ sets out (start + 51 * j) (joinedFrom (λ k. slipKind ∷ slipBodyAt slips k) (m - j) j))
+    × (sets out₀ start (slipEntries (slipBodyAt slips) m) ≡ sets out (start + 51 * j) (joinedFrom (λ k. slipKind ∷ slipBodyAt slips k) (m - j) j))
 
 abbrev μ-loop : tie.MeasureT-loop
 μ-loop out₀ start slips m j₀ out j = m - j
@@ -65,11 +65,11 @@ loop-again c =
     let put = c .before .before in
     let l = put .before .before .before .before .loop in
     let a = put .before .before .before .before .before .before .before .args in
-    let long = entry-long slipKind (50 * l .j) 50 (a .slips .now) (omega arith) in
-    let at : a .start + 51 * l .j + (50 + 1) ≡ a .start + 51 * (l .j + 1) = omega arith in (
+    let long = slip-at-long (a .slips .now) (l .j) (omega arith) in
+    let at : a .start + 51 * l .j + 51 ≡ a .start + 51 * (l .j + 1) = omega arith in (
       omega arith,
       search needs,
-      l .inv .2 ∙ (joined-next (λ k. slipKind ∷ slipBodyAt (a .slips .now) k) (a .m) (l .j) (l .out) (a .start + 51 * l .j) (50 + 1) (omega arith) long ∙ rw (at, put .put-entry .ensures, part-is (50 * l .j) (50 * l .j + 50) (a .slips .now) (omega arith))),
+      l .inv .2 ∙ (joined-next (λ k. slipKind ∷ slipBodyAt (a .slips .now) k) (a .m) (l .j) (l .out) (a .start + 51 * l .j) 51 (omega arith) (omega (arith, long)) ∙ rw (at, put .put-entry .ensures, part-is (50 * l .j) (50 * l .j + 50) (a .slips .now) (omega arith))),
     )
 
 same-length : tie.Need-same-length Inv-loop μ-loop
