@@ -40,6 +40,14 @@ pub form-long : (form : Form) (n m : ℕ) (s : List ℕ) → inForm form n m s �
 unfolding inForm savedWidth
 form-long form n m s h = eqb-true _ _ (and-left (eqb (length s) (slipsAt form n + savedSlipWidth * m + endWidth)) _ h)
 
+-- so do those of a valid save
+pub save-long : (form : Form) (s : List ℕ) → isSaveOf form s ≡ true → length s ≡ slipsAt form (statedLines s) + savedSlipWidth * statedSlips s + endWidth
+unfolding isSaveOf
+save-long form s h =
+    let n : ℕ = statedLines s in
+    let m : ℕ = statedSlips s in
+    form-long form n m s (and-left (inForm form n m s) _ (and-right (leb endWidth (length s)) _ h))
+
 -- without lines the slips stand first, in either form
 no-lines-at : (form : Form) → slipsAt form 0 ≡ 0
 unfolding slipsAt

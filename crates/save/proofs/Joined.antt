@@ -1,14 +1,18 @@
--- Entries of one width, one after the other: how long they are, and stored one at a time.
+-- Entries of one width, one after the other: how long they are, and stored one at a time; so the lines and the slips of a save.
 use mathlib.Core.Path.{_≡_, _∙_, ap₂, refl}
-use mathlib.Core.List.{List}
+use mathlib.Core.List.{List, _∷_}
 use Prim.Native.Nat.{ℕ, zero, suc, _+_, _*_, _-_, _≤_, _<_}
 use native.Mathlib.Nat.{mul-suc}
 use native.Mathlib.Numerals.{add-one}
 use native.Mathlib.Omega.{arith}
-use lib.ListN.{length, length-append}
-use lib.Seq.{sets}
+use lib.ListN.{length, take, length-append}
+use lib.Seq.{sets, length-take-le}
 use Rattle.cells.proofs.Stores.{sets-append}
-use Rattle.save.specs.Saved.{joinedFrom}
+use Rattle.save.specs.Form.{frontWidth, lineKind, lineBodyWidth, savedLineWidth, slipsAt}
+use Rattle.save.specs.Saved.{slipKind, slipBodyWidth, savedSlipWidth, joinedFrom, lineEntries, slipEntries}
+use Rattle.save.specs.declared.form.Form.{Form}
+use Rattle.save.proofs.Bodies.{entry-wide}
+use Rattle.save.proofs.Fronts.{width-most}
 
 -- entries of w bytes are so long together
 pub joined-length : (f : ℕ → List ℕ) (w n i : ℕ) → ((k : ℕ) → i ≤ k → k < i + n → length (f k) ≡ w) → length (joinedFrom f n i) ≡ w * n
@@ -34,3 +38,18 @@ module _ (f : ℕ → List ℕ) (n i : ℕ) (d : List ℕ) (at : ℕ) where
   joined-end h =
       let e : n - i ≡ 0 = omega arith in
       rw e refl
+
+-- the entry of a line by its front, in either form
+pub line-entry-long : (form : Form) (front : List ℕ) → length front ≡ frontWidth → length (lineKind form ∷ take (lineBodyWidth form) front) ≡ savedLineWidth form
+line-entry-long form front e =
+    omega (arith, entry-wide form, length-take-le (lineBodyWidth form) front (omega (arith, e, width-most form)))
+
+-- all lines, and all slips
+pub lines-long : (form : Form) (line : ℕ → List ℕ) (n : ℕ) → ((i : ℕ) → i < n → length (line i) ≡ frontWidth) → length (lineEntries form line n) ≡ slipsAt form n
+unfolding lineEntries slipsAt
+lines-long form line n h =
+    joined-length (λ i. lineKind form ∷ take (lineBodyWidth form) (line i)) (savedLineWidth form) n 0 (λ i x y. line-entry-long form (line i) (h i (omega arith)))
+
+pub slips-long : (slip : ℕ → List ℕ) (m : ℕ) → ((j : ℕ) → j < m → length (slip j) ≡ slipBodyWidth) → length (slipEntries slip m) ≡ savedSlipWidth * m
+unfolding slipEntries
+slips-long slip m h = joined-length (λ j. slipKind ∷ slip j) savedSlipWidth m 0 (λ j x y. omega (arith, h j (omega arith)))
