@@ -1,22 +1,20 @@
--- The entries of a save, how long they are and stored one after the other.
+-- Entries of the book and of a save: how long they are, and stored one after the other.
 use mathlib.Core.Path.{_≡_, _∙_, refl}
-use mathlib.Core.List.{List, _∷_}
-use Prim.Native.Nat.{ℕ, suc, _+_, _*_, _≤_, _<_}
+use mathlib.Core.List.{List}
+use Prim.Native.Nat.{ℕ, suc, _+_, _*_, _≤_}
 use native.Mathlib.Numerals.{add-one}
 use native.Mathlib.Omega.{arith}
-use lib.ListN.{length, set, take, length-append}
-use lib.Seq.{sets, length-slice, length-take-le}
+use lib.ListN.{length, set, length-append}
+use lib.Seq.{sets, length-slice}
 use Rattle.cells.specs.Little.{leBytes}
 use Rattle.cells.proofs.Stores.{sets-append}
 use Rattle.entry.specs.Stored.{lineWidth, slipWidth, arrivedAt}
 use Rattle.save.specs.Entries.{arrivedOn}
-use Rattle.save.specs.Form.{frontWidth, lineKind, lineBodyWidth, savedLineWidth, slipsAt}
-use Rattle.save.specs.Saved.{slipKind, slipBodyWidth, savedSlipWidth, endKind, lineFrontAt, slipBodyAt, lineEntries, slipEntries, endEntry, lineIn, slipIn}
+use Rattle.save.specs.Form.{frontWidth, savedLineWidth, slipsAt}
+use Rattle.save.specs.Saved.{slipBodyWidth, endKind, lineFrontAt, slipBodyAt, endEntry, lineIn, slipIn}
 use Rattle.save.specs.Load.{lineFrom, loadedLine}
 use Rattle.save.specs.declared.form.Form.{Form}
-use Rattle.save.proofs.Bodies.{entry-wide, line-long}
-use Rattle.save.proofs.Fronts.{width-most}
-use Rattle.save.proofs.Joined.{joined-length}
+use Rattle.save.proofs.Bodies.{line-long}
 
 -- the end
 pub end-stored : (d : List ℕ) (at n m : ℕ) → sets (sets (set d at endKind) (at + 1) (leBytes 2 n)) (at + 3) (leBytes 2 m) ≡ sets d at (endEntry n m)
@@ -33,21 +31,6 @@ front-at-long lines i h = length-slice (lineWidth * i) (lineWidth * i + frontWid
 pub slip-at-long : (slips : List ℕ) (j : ℕ) → slipWidth * j + slipBodyWidth ≤ length slips → length (slipBodyAt slips j) ≡ slipBodyWidth
 unfolding slipBodyAt
 slip-at-long slips j h = length-slice (slipWidth * j) (slipWidth * j + slipBodyWidth) slips h ∙ omega arith
-
--- the entry of a line by its front, in either form
-pub line-entry-long : (form : Form) (front : List ℕ) → length front ≡ frontWidth → length (lineKind form ∷ take (lineBodyWidth form) front) ≡ savedLineWidth form
-line-entry-long form front e =
-    omega (arith, entry-wide form, length-take-le (lineBodyWidth form) front (omega (arith, e, width-most form)))
-
--- all lines, and all slips
-pub lines-long : (form : Form) (line : ℕ → List ℕ) (n : ℕ) → ((i : ℕ) → i < n → length (line i) ≡ frontWidth) → length (lineEntries form line n) ≡ slipsAt form n
-unfolding lineEntries slipsAt
-lines-long form line n h =
-    joined-length (λ i. lineKind form ∷ take (lineBodyWidth form) (line i)) (savedLineWidth form) n 0 (λ i x y. line-entry-long form (line i) (h i (omega arith)))
-
-pub slips-long : (slip : ℕ → List ℕ) (m : ℕ) → ((j : ℕ) → j < m → length (slip j) ≡ slipBodyWidth) → length (slipEntries slip m) ≡ savedSlipWidth * m
-unfolding slipEntries
-slips-long slip m h = joined-length (λ j. slipKind ∷ slip j) savedSlipWidth m 0 (λ j x y. omega (arith, h j (omega arith)))
 
 -- a line's front, then A
 pub line-stored : (d : List ℕ) (at : ℕ) (front : List ℕ) (arrived : ℕ) → length front ≡ frontWidth

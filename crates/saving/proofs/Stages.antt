@@ -1,6 +1,6 @@
 -- Saving and loading, stage by stage.
 use mathlib.Core.Path.{_≡_, _∙_, ap, sym}
-use mathlib.Core.Bool.{Bool, true, false, not, _&&_, _||_}
+use mathlib.Core.Bool.{true, false, not, _&&_, _||_}
 use mathlib.Core.List.{List, _++_}
 use Prim.Native.Nat.{ℕ, _+_, _*_, _≤_, _<_}
 use native.Mathlib.Omega.{arith}
@@ -12,15 +12,13 @@ use Rattle.cells.proofs.Stores.{sets-append}
 use Rattle.book.specs.Lent.{Lent, usedLines, usedSlips, lineRoom, slipRoom, sound, roomsSound}
 use Rattle.book.proofs.Sounds.{sound-so}
 use Rattle.save.specs.Form.{slipsAt}
-use Rattle.save.specs.Saved.{written, savedSlipWidth, lineFrontAt, slipBodyAt, lineEntries, slipEntries, endEntry, formed, savedForm, savedWidth, endWidth, notSaved, savedAs, save, statedLines, statedSlips, lineIn, slipIn, inForm, isSaveOf, isSave, formIn}
-use Rattle.save.specs.Entries.{entriesKept}
+use Rattle.save.specs.Saved.{written, savedSlipWidth, lineFrontAt, slipBodyAt, lineEntries, slipEntries, endEntry, formed, savedForm, savedWidth, notSaved, savedAs, save, statedLines, statedSlips, isSave, formIn}
 use Rattle.save.specs.Load.{outcome, lentLoaded, notLoaded, doneAs, load}
-use Rattle.save.proofs.Forms.{form-long}
-use Rattle.cells.proofs.Bools.{split, and-left, and-right}
+use Rattle.save.proofs.Joined.{lines-long, slips-long}
+use Rattle.cells.proofs.Bools.{split}
 use Rattle.save.specs.declared.answer.Refused.the-variants.{Unsound, NoSave, TooSmall}
-use Rattle.save.specs.declared.form.Form.{Form}
 use Rattle.save.specs.declared.form.Form.the-variants.{New}
-use Rattle.saving.proofs.Entries.{front-at-long, slip-at-long, lines-long, slips-long}
+use Rattle.saving.proofs.Entries.{front-at-long, slip-at-long}
 
 module _ (b : Lent) (out : List ℕ) where
   -- 20
@@ -93,13 +91,3 @@ module _ (s : List ℕ) (b : Lent) where
           → load s b ≡ outcome doneAs (lentLoaded (formIn s) s (statedLines s) (statedSlips s) b)
       unfolding load
       load-done f = rw (h, e, f)
-
--- the end of a save, and the entries that it states, stand in it
-pub save-long : (form : Form) (s : List ℕ) → isSaveOf form s ≡ true → (endWidth ≤ length s) × (slipsAt form (statedLines s) + savedSlipWidth * statedSlips s ≤ length s)
-unfolding isSaveOf
-save-long form s e =
-    let n : ℕ = statedLines s in
-    let m : ℕ = statedSlips s in
-    let rest : Bool = inForm form n m s && entriesKept n m (lineIn form s) (slipIn s (slipsAt form n)) in
-    let in-form : inForm form n m s ≡ true = and-left _ _ (and-right (leb endWidth (length s)) rest e) in
-    (leb-true _ _ (and-left (leb endWidth (length s)) rest e), omega (arith, form-long form n m s in-form))

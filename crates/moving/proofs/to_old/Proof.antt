@@ -1,48 +1,53 @@
+-- `moving::to_old` meets its contract: no save of the new form, one with a message that would be lost, or one that is moved.
+use mathlib.Core.Path.{_≡_, _∙_, sym}
+use Rattle.cells.proofs.Bools.{is-not, is-so}
+use Rattle.moving.proofs.Laws.{old-no-save, old-lost, old-moved}
 use borrow.Author.Needs.{needs}
 use Rattle.moving.proofs.to_old.Statement.{statement}
 use Rattle.moving.proofs.to_old.Tie as tie
-use Rattle.moving.proofs.to_old.Reads as reads
-use Rattle.moving.proofs.to_old.Lts as lts
-use Rattle.moving.proofs.is_none_numbered.Reads as is-none-numbered-reads
-use Rattle.moving.proofs.move_into.Reads as move-into-reads
-use Rattle.save.proofs.answer.not_saved.Reads as not-saved-reads
-use Rattle.saved.proofs.is_save_of.Reads as is-save-of-reads
 
--- src/lib.rt:98:9
 is-save-of-requires : tie.Need-is-save-of-requires
 is-save-of-requires c κs = search needs
 
--- src/lib.rt:99:9
 not-saved-requires : tie.Need-not-saved-requires
 not-saved-requires c κs = search needs
 
--- src/lib.rt:99:9
 returns : tie.Need-returns
-returns c = ?
+returns c =
+    let no-save = c .before in
+    let a = no-save .before .before .before .before .args in
+    rw (c .not-saved .ensures) (sym (old-no-save (a .saved .now) (a .out .now) (is-not (no-save .before .is-save-of .ensures) (no-save .if1 .taken))))
 
--- src/lib.rt:101:9
 is-none-numbered-requires : tie.Need-is-none-numbered-requires
-is-none-numbered-requires c κs = ?
+is-none-numbered-requires c κs = is-so (c .before .is-save-of .ensures) (c .if1 .left)
 
--- src/lib.rt:102:9
 not-saved-requires-2 : tie.Need-not-saved-requires-2
 not-saved-requires-2 c κs = search needs
 
--- src/lib.rt:102:9
 returns-2 : tie.Need-returns-2
-returns-2 c = ?
+returns-2 c =
+    let lost = c .before in
+    let valid = lost .before .before in
+    let a = valid .before .before .before .before .args in
+    rw (c .not-saved2 .ensures)
+    (sym (old-lost (a .saved .now) (a .out .now) (is-so (valid .before .is-save-of .ensures) (valid .if1 .left)) (is-not (lost .before .is-none-numbered .ensures) (lost .if2 .taken))))
 
--- src/lib.rt:104:5
 move-into-requires : tie.Need-move-into-requires
-move-into-requires c κs = ?
+move-into-requires c κs =
+    let valid = c .before .before .before in
+    is-so (valid .before .is-save-of .ensures) (valid .if1 .left)
 
--- src/lib.rt:95:1
 same-length : tie.Need-same-length
 same-length c = search needs
 
--- src/lib.rt:95:1
 returns-3 : tie.Need-returns-3
-returns-3 c = ?
+returns-3 c =
+    let move = c .before .before in
+    let kept = move .before .before in
+    let valid = kept .before .before in
+    let a = valid .before .before .before .before .args in
+    move .move-into .ensures
+    ∙ sym (old-moved (a .saved .now) (a .out .now) (is-so (valid .before .is-save-of .ensures) (valid .if1 .left)) (is-so (kept .before .is-none-numbered .ensures) (kept .if2 .left)))
 
 pub to-old-spec : {M : Type 1} → statement M
 to-old-spec =

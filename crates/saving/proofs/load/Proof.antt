@@ -11,8 +11,8 @@ use Rattle.entry.specs.Stored.{lineWidth, slipWidth}
 use Rattle.book.specs.Lent.{lent, lineRoom, slipRoom, roomsSound}
 use Rattle.save.specs.Form.{slipsAt}
 use Rattle.save.specs.Saved.{savedSlipWidth, statedLines, statedSlips, isSaveOf, isSave}
-use Rattle.save.proofs.Forms.{either-form}
-use Rattle.saving.proofs.Stages.{small-either, load-unsound, load-no-save, load-small, load-done, save-long}
+use Rattle.save.proofs.Forms.{save-long, either-form}
+use Rattle.saving.proofs.Stages.{small-either, load-unsound, load-no-save, load-small, load-done}
 use borrow.Author.Needs.{needs}
 use Rattle.saving.proofs.load.Statement.{statement}
 use Rattle.saving.proofs.load.Tie as tie
@@ -52,7 +52,7 @@ long : (c : tie.After-get22)
     → slipsAt (c .before .before .before .before .form-in .result) (c .before .get2 .result) + savedSlipWidth * c .get22 .result ≤ length (c .before .before .before .before .before .before .before .before .before .before .before .args .saved .now)
 long c =
     let saved = c .before .before in
-    rw (lines-read (c .before), slips-read c) (save-long _ _ (of-form saved) .1)
+    rw (lines-read (c .before), slips-read c) (omega (arith, save-long _ _ (of-form saved)))
 
 -- whether they fit, as the code tests it
 fits : (c : tie.After-get22) → let a = c .before .before .before .before .before .before .before .before .before .before .before .args in
@@ -92,16 +92,16 @@ returns-2 c =
     rw (c .not-loaded2 .ensures) (sym (load-no-save _ _ (rooms-sound (then .before .before .before)) (is-not (judged (then .before)) (then .if2 .taken))))
 
 sub-get2 : tie.Need-sub-get2
-sub-get2 c = omega (arith, save-long _ _ (of-form c) .0)
+sub-get2 c = omega (arith, save-long _ _ (of-form c))
 
 get2-requires : tie.Need-get2-requires
-get2-requires c κs = omega (arith, save-long _ _ (of-form c) .0)
+get2-requires c κs = omega (arith, save-long _ _ (of-form c))
 
 sub-get2-2 : tie.Need-sub-get2-2
-sub-get2-2 c = omega (arith, save-long _ _ (of-form (c .before)) .0)
+sub-get2-2 c = omega (arith, save-long _ _ (of-form (c .before)))
 
 get2-requires-2 : tie.Need-get2-requires-2
-get2-requires-2 c κs = omega (arith, save-long _ _ (of-form (c .before)) .0)
+get2-requires-2 c κs = omega (arith, save-long _ _ (of-form (c .before)))
 
 not-loaded-requires-3 : tie.Need-not-loaded-requires-3
 not-loaded-requires-3 c κs = search needs

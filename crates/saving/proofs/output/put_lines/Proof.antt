@@ -11,8 +11,8 @@ use Rattle.entry.specs.Stored.{lineWidth}
 use Rattle.save.specs.Form.{frontWidth, lineKind, lineBodyWidth, frontOf, savedLineWidth, slipsAt}
 use Rattle.save.specs.Saved.{joinedFrom, lineFrontAt, lineEntries}
 use Rattle.save.specs.declared.form.Form.the-variants.{New}
-use Rattle.save.proofs.Joined.{joined-next, joined-end}
-use Rattle.saving.proofs.Entries.{front-at-long, line-entry-long}
+use Rattle.save.proofs.Joined.{joined-next, joined-end, line-entry-long}
+use Rattle.saving.proofs.Entries.{front-at-long}
 use borrow.Author.Needs.{needs}
 use Rattle.saving.proofs.output.put_lines.Statement.{statement}
 use Rattle.saving.proofs.output.put_lines.Tie as tie
