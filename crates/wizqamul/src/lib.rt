@@ -11,6 +11,7 @@ ghost use Rattle.book.specs.Booking.{outcome as booked, book};
 ghost use Rattle.book.specs.Asked.{lineAsked};
 ghost use Rattle.save.specs.Saved.{written as saved, save};
 ghost use Rattle.save.specs.Load.{outcome as loaded, load};
+ghost use Rattle.save.specs.Moves.{toNew, toOld};
 ghost use Rattle.roster.specs.Schools.{accountTold};
 use book::answer::Booked;
 use book::answer::Told;
@@ -121,7 +122,7 @@ pub extern "C" fn wq_account(schools: &[School], address: &[u8], qualifier: &[u8
     told(schools.len(), i, ceiling)
 }
 
-// Saves the lent book at the front of the output.
+// Saves the lent book at the front of the output, in the new form.
 #[no_mangle]
 pub extern "C" fn wq_save(lines: &[u8], slips: &[u8], used: &[usize; 2], out: &mut [u8]) -> Saved
     ensures { λ r. ⌜ saved r (now (out .exit)) ≡ save (lent (now (lines .entry)) (now (slips .entry)) (now (used .entry))) (now (out .entry)) ⌝ }
@@ -129,7 +130,7 @@ pub extern "C" fn wq_save(lines: &[u8], slips: &[u8], used: &[usize; 2], out: &m
     saving::save(lines, slips, used, out)
 }
 
-// Loads a save into a lent book of any contents.
+// Loads a save of either form into a lent book of any contents.
 #[no_mangle]
 pub extern "C" fn wq_load(
     save: &[u8],
@@ -140,4 +141,20 @@ pub extern "C" fn wq_load(
     ensures { λ r. ⌜ loaded r (lent (now (lines .exit)) (now (slips .exit)) (now (used .exit))) ≡ load (now (save .entry)) (lent (now (lines .entry)) (now (slips .entry)) (now (used .entry))) ⌝ }
 {
     saving::load(save, lines, slips, used)
+}
+
+// Moves a save of the old form to the new one, at the front of the output.
+#[no_mangle]
+pub extern "C" fn wq_to_new(save: &[u8], out: &mut [u8]) -> Saved
+    ensures { λ r. ⌜ saved r (now (out .exit)) ≡ toNew (now (save .entry)) (now (out .entry)) ⌝ }
+{
+    moving::to_new(save, out)
+}
+
+// Moves a save of the new form back to the old one, at the front of the output.
+#[no_mangle]
+pub extern "C" fn wq_to_old(save: &[u8], out: &mut [u8]) -> Saved
+    ensures { λ r. ⌜ saved r (now (out .exit)) ≡ toOld (now (save .entry)) (now (out .entry)) ⌝ }
+{
+    moving::to_old(save, out)
 }

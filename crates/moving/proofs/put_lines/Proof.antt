@@ -82,8 +82,8 @@ loop-again c =
       omega arith,
       put .put-line .kept .0 ∙ l .inv .1,
       l .inv .2
-      ∙ joined-next (entry (a .from) (a .to) (a .saved .now)) (a .n) (l .i) (l .out) (w * l .i) w (omega arith) long
-      ∙ rw (next, put .put-line .ensures, put .before .body-in .ensures, at-line .before .before .line-width .ensures),
+          ∙ joined-next (entry (a .from) (a .to) (a .saved .now)) (a .n) (l .i) (l .out) (w * l .i) w (omega arith) long
+          ∙ rw (next, put .put-line .ensures, put .before .body-in .ensures, at-line .before .before .line-width .ensures),
     )
 
 same-length : tie.Need-same-length Inv-loop μ-loop
