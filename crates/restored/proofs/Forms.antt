@@ -21,12 +21,13 @@ use Rattle.save.specs.Entries.{entriesKept}
 use Rattle.save.specs.Saved.{slipKind, endKind, slipBodyWidth, savedSlipWidth, endWidth, joinedFrom, lineEntries, slipEntries, endEntry, formed, savedWidth, statedLines, statedSlips, bodyIn, lineIn, slipIn, allOfKind, inForm, isSaveOf}
 use Rattle.save.specs.Moves.{moved}
 use Rattle.save.specs.declared.form.Form.{Form}
-use Rattle.save.proofs.Bodies.{line-before, body-long}
+use Rattle.save.proofs.Bodies.{entry-wide, line-before, body-long}
 use Rattle.save.proofs.Fronts.{byte-past, number-past, part-past, number-front, bytes-wide, width-most, front-body}
+use Rattle.save.proofs.Joined.{lines-long, slips-long}
 use Rattle.save.proofs.Views.{entries-same}
 use Rattle.restored.specs.Restored.{Bytes}
 use Rattle.restored.proofs.Cuts.{part-and-rest, bytes-back}
-use Rattle.restored.proofs.Joined.{joined-same, kinded-length, kinded-kind, kinded-body, kinded-cut}
+use Rattle.restored.proofs.Joined.{joined-same, kinded-kind, kinded-body, kinded-cut}
 
 -- the end is five bytes
 end-wide : (n m : ℕ) → length (endEntry n m) ≡ endWidth
@@ -44,11 +45,6 @@ end-slips : (n m : ℕ) → m < 65536 → leAt (endEntry n m) 3 2 ≡ m
 unfolding endEntry
 end-slips n m h =
     number-past (endKind ∷ []) (leBytes 2 n ++ leBytes 2 m) 1 refl 2 2 ∙ number-past (leBytes 2 n) (leBytes 2 m) 2 (bytes-wide 2 n) 0 2 ∙ le-back 2 m h
-
--- an entry of a line is one byte longer than its body
-entry-one : (form : Form) → savedLineWidth form ≡ suc (lineBodyWidth form)
-unfolding savedLineWidth
-entry-one form = omega arith
 
 -- equal lines have one form
 lines-formed : (form : Form) (n : ℕ) (line line′ : ℕ → List ℕ) → ((i : ℕ) → i < n → line i ≡ line′ i) → lineEntries form line n ≡ lineEntries form line′ n
@@ -86,13 +82,11 @@ module _ (form : Form) (n m : ℕ) (line slip : ℕ → List ℕ) (lineWide : (i
 
   -- the lines are so long
   line-run : length (lineEntries form line n) ≡ at
-  unfolding lineEntries slipsAt
-  line-run = kinded-length (lineKind form) (lineBodyWidth form) (savedLineWidth form) (entry-one form) n body body-wide
+  line-run = lines-long form line n lineWide
 
   -- the slips are so long
   slip-run : length (slipEntries slip m) ≡ savedSlipWidth * m
-  unfolding slipEntries
-  slip-run = kinded-length slipKind slipBodyWidth savedSlipWidth refl m slip slipWide
+  slip-run = slips-long slip m slipWide
 
   -- the whole is so long
   pub formed-length : length s ≡ savedWidth form n m
@@ -104,7 +98,7 @@ module _ (form : Form) (n m : ℕ) (line slip : ℕ → List ℕ) (lineWide : (i
   -- the bodies of lines stand in their entries
   formed-body : (i : ℕ) → i < n → bodyIn form s i ≡ body i
   unfolding formed lineEntries bodyIn
-  formed-body i a = kinded-body (lineKind form) (lineBodyWidth form) (savedLineWidth form) (entry-one form) n body body-wide rest i a
+  formed-body i a = kinded-body (lineKind form) (lineBodyWidth form) (savedLineWidth form) (entry-wide form) n body body-wide rest i a
 
   -- and those of slips
   pub formed-slip : (j : ℕ) → j < m → slipIn s at j ≡ slip j
@@ -140,7 +134,7 @@ module _ (form : Form) (n m : ℕ) (line slip : ℕ → List ℕ) (lineWide : (i
   unfolding allOfKind formed lineEntries
   line-kinds =
       each-place (λ i. eqb (getD s (0 + savedLineWidth form * i) 0) (lineKind form)) n 0
-      (λ i a c. rw (zero-add (savedLineWidth form * i)) (eq-eqb _ _ (kinded-kind (lineKind form) (lineBodyWidth form) (savedLineWidth form) (entry-one form) n body body-wide rest i (omega arith))))
+      (λ i a c. rw (zero-add (savedLineWidth form * i)) (eq-eqb _ _ (kinded-kind (lineKind form) (lineBodyWidth form) (savedLineWidth form) (entry-wide form) n body body-wide rest i (omega arith))))
 
   -- each slip
   slip-kinds : allOfKind slipKind savedSlipWidth at m s ≡ true
@@ -270,5 +264,5 @@ module _ (form : Form) (s : List ℕ) (bytes : Bytes s) (v : Valid form s) where
       let e : 0 + w * lines ≡ w * lines = zero-add (w * lines) in
       ap (λ (l : List ℕ). lineEntries form (lineIn form s) lines ++ l) (sym slips-back)
       ∙ ap (λ (x : ℕ). lineEntries form (lineIn form s) lines ++ drop x s) (sym e)
-      ∙ kinded-cut s 0 (lineKind form) w lines (λ i. take (lineBodyWidth form) (lineIn form s i)) (omega (arith, entry-one form)) (omega (arith, v .long)) (v .line-kind)
+      ∙ kinded-cut s 0 (lineKind form) w lines (λ i. take (lineBodyWidth form) (lineIn form s i)) (omega (arith, entry-wide form)) (omega (arith, v .long)) (v .line-kind)
       (λ k a. body-back k a ∙ rw (zero-add (w * k)))

@@ -74,10 +74,6 @@ module _ (kind w v : ℕ) (one : v ≡ suc w) (n : ℕ) (body : ℕ → List ℕ
   entry-wide : (k : ℕ) → 0 ≤ k → k < 0 + n → length (kind ∷ body k) ≡ v
   entry-wide k a c = ap suc (wide k (omega arith)) ∙ sym one
 
-  -- and all of them
-  pub kinded-length : length (joinedFrom (λ k. kind ∷ body k) n 0) ≡ v * n
-  kinded-length = joined-length (λ k. kind ∷ body k) v n 0 entry-wide
-
   module _ (rest : List ℕ) (k : ℕ) (a : k < n) where
     entry-at : slice (v * k) (v * k + v) (joinedFrom (λ k. kind ∷ body k) n 0 ++ rest) ≡ kind ∷ body k
     entry-at =

@@ -1,6 +1,6 @@
 -- A valid save moved to a form that says all of its lines: it is a valid save of that form with the same lines and slips, loads to the same book, and moves back to the same bytes.
 use mathlib.Core.Path.{_≡_, _∙_, ap, sym}
-use mathlib.Core.Bool.{true, _&&_}
+use mathlib.Core.Bool.{true}
 use mathlib.Core.List.{List}
 use Prim.Native.Nat.{ℕ, suc, _+_, _≤_, _<_}
 use native.Mathlib.Omega.{arith}
@@ -8,14 +8,12 @@ use lib.Dec.{leb, ltb}
 use lib.ListN.{length, getD, take, set}
 use lib.Seq.{sets, take-at}
 use borrow.Author.Tests.{le-leb, leb-true, ltb-true}
-use Rattle.cells.specs.Bytes.{pick}
 use Rattle.cells.specs.Little.{leAt}
 use Rattle.cells.proofs.Bools.{split}
 use Rattle.rules.proofs.Runs.{all-at}
 use Rattle.book.specs.Lent.{Lent}
 use Rattle.save.specs.Form.{frontWidth, lineBodyWidth, frontOf, slipsAt}
-use Rattle.save.specs.Entries.{arrivedOn}
-use Rattle.save.specs.Saved.{slipBodyWidth, endWidth, written, refusedNumber, notSaved, savedAs, joinedFrom, formed, savedWidth, statedLines, statedSlips, lineIn, slipIn, isSaveOf, formIn}
+use Rattle.save.specs.Saved.{slipBodyWidth, written, refusedNumber, notSaved, savedAs, savedWidth, statedLines, statedSlips, lineIn, slipIn, isSaveOf, formIn}
 use Rattle.save.specs.Load.{lineFrom, loadedLine, lentLoaded, load}
 use Rattle.save.specs.Moves.{moved, movedWidth, movedInto}
 use Rattle.save.specs.declared.form.Form.{Form}

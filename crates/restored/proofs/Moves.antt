@@ -1,5 +1,5 @@
 -- Moving a save between its forms: there and back gives the bytes, both forms load to the same book, and where each move is done.
-use mathlib.Core.Path.{_≡_, _∙_, ap, sym, refl}
+use mathlib.Core.Path.{_≡_, _∙_, ap, sym}
 use mathlib.Core.Bool.{Bool, true, false, not, _&&_}
 use mathlib.Core.List.{List}
 use Prim.Native.Nat.{ℕ, _+_, _*_, _≤_, _<_}
@@ -7,16 +7,15 @@ use native.Mathlib.Omega.{arith}
 use lib.Dec.{eqb, leb, ltb}
 use lib.ListN.{length, take}
 use borrow.Author.Tests.{eqb-true, eqb-false, eq-eqb, not-true}
-use Rattle.cells.specs.Bytes.{pick, within}
+use Rattle.cells.specs.Bytes.{within}
 use Rattle.cells.specs.Little.{leAt}
 use Rattle.cells.proofs.Bools.{split, and-left, and-right}
 use Rattle.cells.proofs.Lists.{all-take, all-drop}
 use Rattle.cells.proofs.Searches.{all-at, all-same, each-place}
-use Rattle.entry.specs.Report.{mostMessage, noMark}
-use Rattle.entry.specs.Stored.{orderedAt, messageAt, mostCopies}
-use Rattle.save.specs.Form.{lineKind, lineBodyWidth, unsavedMessage, unsaved, frontOf, kindByte, savedLineWidth}
+use Rattle.entry.specs.Stored.{orderedAt, mostCopies}
+use Rattle.save.specs.Form.{lineKind, lineBodyWidth, frontOf, kindByte, savedLineWidth}
 use Rattle.save.specs.Entries.{referenceAt, lineFields, fieldsKept, reportKept, lineKept}
-use Rattle.save.specs.Saved.{refusedNumber, notSaved, savedAs, statedLines, statedSlips, bodyIn, lineIn, slipIn, isSaveOf}
+use Rattle.save.specs.Saved.{refusedNumber, notSaved, savedAs, statedLines, statedSlips, bodyIn, lineIn, isSaveOf}
 use Rattle.save.specs.Load.{load}
 use Rattle.save.specs.Moves.{moved, movedWidth, movedInto, toNew, isNumbered, noneNumbered, toOld}
 use Rattle.save.specs.declared.form.Form.{Form}
@@ -27,8 +26,8 @@ use Rattle.save.proofs.Fronts.{old-number}
 use Rattle.restored.specs.Restored.{Bytes, savedBytes}
 use Rattle.restored.specs.Moves.{ToNewAndBack, BackAndToNew, NewLoadsAlike, OldLoadsAlike, ToNewExactly, ToOldExactly, NoneNumbered, BothForms}
 use Rattle.restored.proofs.Kept.{line-kept}
-use Rattle.restored.proofs.Forms.{Valid, valid-so}
-use Rattle.restored.proofs.Says.{new-says, own-says, old-says, number-or-absent}
+use Rattle.restored.proofs.Forms.{valid-so}
+use Rattle.restored.proofs.Says.{new-says, old-says, number-or-absent}
 use Rattle.restored.proofs.Moved.{moved-lines, move-wrote, moved-save, moved-line, move-back, load-alike}
 
 -- the move to the new form is done exactly for a save of the old form where the output is large enough

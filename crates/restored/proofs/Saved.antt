@@ -13,7 +13,7 @@ use Rattle.book.specs.Lent.{Lent, usedLines, usedSlips}
 use Rattle.book.proofs.Sounds.{sound-so}
 use Rattle.save.specs.Form.{frontWidth, frontOf, lineBodyWidth, slipsAt}
 use Rattle.save.specs.Entries.{arrivedOn}
-use Rattle.save.specs.Saved.{slipBodyWidth, joinedFrom, lineFrontAt, slipBodyAt, formed, savedForm, savedWidth, statedLines, statedSlips, lineIn, slipIn, isSaveOf, formIn}
+use Rattle.save.specs.Saved.{slipBodyWidth, joinedFrom, lineFrontAt, slipBodyAt, savedForm, savedWidth, statedLines, statedSlips, lineIn, slipIn, isSaveOf}
 use Rattle.save.specs.Load.{lineFrom, loadedLine}
 use Rattle.save.specs.Moves.{moved}
 use Rattle.save.specs.declared.form.Form.{Form}

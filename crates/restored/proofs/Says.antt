@@ -1,15 +1,15 @@
--- Where a form says all of a line: the new form always, the old one of a line that it said itself, and of one whose message is no number.
-use mathlib.Core.Path.{_≡_, _∙_, ap, ap₂, sym, refl}
+-- Where a form says all of a line: the new form always, the old one where the message is no number.
+use mathlib.Core.Path.{_≡_, _∙_, ap, sym, refl}
 use mathlib.Core.Bool.{Bool, true, false, not, _&&_, _||_}
-use mathlib.Core.List.{List, _++_}
-use Prim.Native.Nat.{ℕ, _+_, _≤_, _<_}
+use mathlib.Core.List.{List}
+use Prim.Native.Nat.{ℕ, _≤_}
 use native.Mathlib.Omega.{arith}
 use lib.Dec.{eqb, leb}
 use lib.ListN.{length, getD, take, drop, take-append-drop}
 use lib.Seq.{slice, take-all, getD-take}
 use borrow.Author.Tests.{eqb-true, leb-true, ne-eqb}
 use Rattle.cells.specs.Bytes.{pick, within, same}
-use Rattle.cells.specs.Little.{leAt, leBytes}
+use Rattle.cells.specs.Little.{leAt}
 use Rattle.cells.proofs.Bools.{split, and-left, and-right}
 use Rattle.cells.proofs.Lists.{same-true}
 use Rattle.cells.proofs.Parts.{parts-join, to-end}
@@ -19,9 +19,7 @@ use Rattle.entry.specs.Stored.{markAt, messageAt, expectedAt}
 use Rattle.save.specs.Form.{frontWidth, lineBodyWidth, unsavedMessage, unsaved, frontOf}
 use Rattle.save.specs.Entries.{reportKept}
 use Rattle.save.specs.Moves.{isNumbered}
-use Rattle.save.specs.declared.form.Form.{Form}
 use Rattle.save.specs.declared.form.Form.the-variants.{Old, New}
-use Rattle.save.proofs.Fronts.{front-body}
 use Rattle.restored.specs.Restored.{Bytes}
 use Rattle.restored.proofs.Cuts.{bytes-back}
 
@@ -29,10 +27,6 @@ use Rattle.restored.proofs.Cuts.{bytes-back}
 pub new-says : (front : List ℕ) → length front ≡ frontWidth → frontOf New (take (lineBodyWidth New) front) ≡ front
 unfolding frontOf lineBodyWidth
 new-says front e = take-all frontWidth front (omega arith)
-
--- a form of what it said itself
-pub own-says : (form : Form) (body : List ℕ) → length body ≡ lineBodyWidth form → frontOf form (take (lineBodyWidth form) (frontOf form body)) ≡ frontOf form body
-own-says form body e = ap (frontOf form) (front-body form body e)
 
 -- a last report that goes together, and whose message is no number
 record Absent (mark message : ℕ) (date : List ℕ) : Type 0 where

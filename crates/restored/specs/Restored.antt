@@ -1,5 +1,5 @@
 -- Saving and loading, the statements: load of a save gives the book, save of what was loaded gives the bytes, from an old save those of its new form, and what a load can be.
-use Prim.Native.Nat.{ℕ, _+_, _*_, _≤_, _<_}
+use Prim.Native.Nat.{ℕ, _*_, _≤_, _<_}
 use mathlib.Core.Path.{_≡_}
 use mathlib.Core.Bool.{true, _&&_}
 use mathlib.Core.Logic.{_⊎_}

@@ -1,7 +1,7 @@
 -- The bodies of the lines and the slips in a save: where they stand and how long each is.
 use mathlib.Core.Path.{_≡_, _∙_}
 use mathlib.Core.List.{List}
-use Prim.Native.Nat.{ℕ, _+_, _*_, _≤_, _<_}
+use Prim.Native.Nat.{ℕ, suc, _+_, _*_, _≤_, _<_}
 use native.Mathlib.Nat.{mul-suc, mul-le-mul-left}
 use native.Mathlib.Omega.{arith}
 use lib.ListN.{length, take}
@@ -31,7 +31,7 @@ slips-most Old n = omega arith
 slips-most New n = omega arith
 
 -- an entry is one byte longer than its body
-pub entry-wide : (form : Form) → savedLineWidth form ≡ 1 + lineBodyWidth form
+pub entry-wide : (form : Form) → savedLineWidth form ≡ suc (lineBodyWidth form)
 unfolding savedLineWidth
 entry-wide form = omega arith
 

@@ -1,8 +1,8 @@
 -- Bytes judged as a save of a form, test by test; and that a save is of the form by which it is taken.
-use mathlib.Core.Path.{_≡_, _∙_, ap, ap₂, sym, refl}
+use mathlib.Core.Path.{_≡_, _∙_, sym, refl}
 use mathlib.Core.Bool.{Bool, true, false, _&&_, _||_}
 use mathlib.Core.List.{List}
-use Prim.Native.Nat.{ℕ, zero, suc, _+_, _*_, _-_, _≤_, _<_}
+use Prim.Native.Nat.{ℕ, _+_, _*_, _-_, _≤_, _<_}
 use native.Mathlib.Nat.{mul-zero}
 use native.Mathlib.Omega.{arith}
 use borrow.Author.Tests.{le-leb, lt-leb, eqb-true, eqb-false}

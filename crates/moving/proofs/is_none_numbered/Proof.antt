@@ -2,7 +2,7 @@
 use mathlib.Core.Path.{_≡_, _∙_, ap, sym}
 use mathlib.Core.Bool.{Bool, not}
 use mathlib.Core.List.{List}
-use Prim.Native.Nat.{ℕ, _-_, _≤_, _<_}
+use Prim.Native.Nat.{ℕ, _-_, _≤_}
 use native.Mathlib.Nat.{sub-zero}
 use native.Mathlib.Omega.{arith}
 use borrow.Author.Tests.{le-leb, lt-leb}
@@ -13,12 +13,11 @@ use Rattle.cells.specs.Search.{allFrom}
 use Rattle.cells.proofs.Searches.{all-here, all-next, all-end}
 use Rattle.entry.specs.Stored.{messageAt}
 use Rattle.save.specs.Form.{lineBodyWidth, frontOf, slipsAt}
-use Rattle.save.specs.Saved.{statedLines, bodyIn, lineIn}
+use Rattle.save.specs.Saved.{statedLines, lineIn}
 use Rattle.save.specs.Moves.{isNumbered, noneNumbered}
 use Rattle.save.specs.declared.form.Form.the-variants.{New}
 use Rattle.save.proofs.Bodies.{line-before, body-long}
 use Rattle.save.proofs.Forms.{save-long}
-use borrow.Author.Needs.{needs}
 use Rattle.moving.proofs.is_none_numbered.Statement.{statement}
 use Rattle.moving.proofs.is_none_numbered.Tie as tie
 

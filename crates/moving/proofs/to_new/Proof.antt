@@ -1,5 +1,5 @@
 -- `moving::to_new` meets its contract: no save of the old form, or one that is moved.
-use mathlib.Core.Path.{_≡_, _∙_, sym}
+use mathlib.Core.Path.{_∙_, sym}
 use Rattle.cells.proofs.Bools.{is-not, is-so}
 use Rattle.moving.proofs.Laws.{new-no-save, new-moved}
 use borrow.Author.Needs.{needs}

@@ -1,5 +1,5 @@
 -- `moving::to_old` meets its contract: no save of the new form, one with a message that would be lost, or one that is moved.
-use mathlib.Core.Path.{_≡_, _∙_, sym}
+use mathlib.Core.Path.{_∙_, sym}
 use Rattle.cells.proofs.Bools.{is-not, is-so}
 use Rattle.moving.proofs.Laws.{old-no-save, old-lost, old-moved}
 use borrow.Author.Needs.{needs}

@@ -1,6 +1,6 @@
 -- `save::entries::body_in` meets its contract.
 use mathlib.Core.Path.{_≡_}
-use Prim.Native.Nat.{_+_, _*_, _≤_}
+use Prim.Native.Nat.{suc, _+_, _*_, _≤_}
 use native.Mathlib.Omega.{arith}
 use lib.ListN.{length}
 use denote.Ref.{now}
@@ -14,7 +14,7 @@ use Rattle.save.proofs.entries.body_in.Tie as tie
 
 -- the entry stands in the save
 stands : (c : tie.After-line-width)
-    → c .line-width .result * c .before .before .args .i + (1 + lineBodyWidth (c .before .before .args .form)) ≤ length (now (c .before .before .args .s))
+    → c .line-width .result * c .before .before .args .i + suc (lineBodyWidth (c .before .before .args .form)) ≤ length (now (c .before .before .args .s))
 stands c =
     let a = c .before .before in
     rw (c .line-width .ensures, ← entry-wide (a .args .form)) (a .pre)

@@ -1,5 +1,5 @@
 -- `save::entries::is_line_kept` meets its contract: its key and article, its copies, then its last report.
-use mathlib.Core.Path.{_≡_, _∙_, ap}
+use mathlib.Core.Path.{_≡_, _∙_}
 use native.Mathlib.Omega.{arith}
 use lib.ListN.{take}
 use Rattle.cells.proofs.Bools.{is-not, is-so}

@@ -1,5 +1,5 @@
 -- `save::lines::put_front` meets its contract, form by form: behind a body of the old form stands what was not saved.
-use mathlib.Core.Path.{_≡_, _∙_}
+use mathlib.Core.Path.{_∙_}
 use native.Mathlib.Omega.{arith}
 use Rattle.save.specs.Form.{frontOf}
 use Rattle.save.proofs.Fronts.{width-least, width-most, old-width, old-stored}
