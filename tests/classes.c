@@ -179,6 +179,18 @@ static const char *const words[CLASS_COUNT] = {
         "22 for one of 65,535 lines of another kind, the first of the new form, to be moved to the new form",
     [MIXED_OF_65535_NEW_TO_OLD] =
         "22 for one of 65,535 lines of another kind, the first of the new form, to be moved to the old form",
+    [FAR_KIND_OLD_LOADED] =
+        "22 for a line past 600 of the old form under the other kind, to be loaded",
+    [FAR_KIND_OLD_TO_NEW] =
+        "22 for a line past 600 of the old form under the other kind, to be moved to the new form",
+    [FAR_KIND_OLD_TO_OLD] =
+        "22 for a line past 600 of the old form under the other kind, to be moved to the old form",
+    [FAR_KIND_NEW_LOADED] =
+        "22 for a line past 600 of the new form under the other kind, to be loaded",
+    [FAR_KIND_NEW_TO_NEW] =
+        "22 for a line past 600 of the new form under the other kind, to be moved to the new form",
+    [FAR_KIND_NEW_TO_OLD] =
+        "22 for a line past 600 of the new form under the other kind, to be moved to the old form",
     [STATE_LOADED] = "a report of any kind in a save, loaded",
     [STATE_TO_NEW] = "a report of any kind in a save, to be moved to the new form",
     [STATE_TO_OLD] = "a report of any kind in a save, to be moved to the old form",

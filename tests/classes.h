@@ -50,6 +50,8 @@ enum class {
     FAR_MIXED_NEW_TO_OLD, MIXED_OF_65535_OLD_LOADED, MIXED_OF_65535_OLD_TO_NEW,
     MIXED_OF_65535_OLD_TO_OLD, MIXED_OF_65535_NEW_LOADED, MIXED_OF_65535_NEW_TO_NEW,
     MIXED_OF_65535_NEW_TO_OLD,
+    FAR_KIND_OLD_LOADED, FAR_KIND_OLD_TO_NEW, FAR_KIND_OLD_TO_OLD, FAR_KIND_NEW_LOADED,
+    FAR_KIND_NEW_TO_NEW, FAR_KIND_NEW_TO_OLD,
     /* last reports in saves of the new form: for each kind of number by mark 0 to 3, for each kind
        of message by six kinds of dates; and by byte */
     STATE_LOADED, STATE_TO_NEW, STATE_TO_OLD, SAVED_MESSAGE_STATE, SAVED_MESSAGE_STATE_HELD,

@@ -161,23 +161,28 @@ static size_t turn_line(size_t index, size_t length)
     return length + MORE;
 }
 
-/* Saves with one line of the other kind far behind, also as many lines as two bytes count; the
-   classes stand in the order of the calls. */
+/* What all three calls that take a save have to answer to one that is none. The classes stand in
+   their order, for each form. */
+static void refuse_far(struct dice *dice, size_t length, enum class class)
+{
+    static uint8_t out[SAVE_ROOM];
+    class = (enum class)(class + 3 * form);
+    expect(class, 1, load_far(dice, length), 22);
+    expect((enum class)(class + 1), 1, both_move(NEW_FORM, saved, length, out, sizeof out), 22);
+    expect((enum class)(class + 2), 1, both_move(OLD_FORM, saved, length, out, sizeof out), 22);
+}
+
+/* Saves with one line of the other kind far behind: of the width that goes with it, also where
+   there are as many lines as two bytes count, and of the width that the others have. */
 static void mix_far_kinds(struct dice *dice)
 {
-    const size_t counts[] = {between(dice, 602, 700), TWO_BYTES - 1};
-    static uint8_t out[SAVE_ROOM];
-    for (size_t i = 0; i < sizeof counts / sizeof counts[0]; i++) {
-        size_t lines = counts[i], at = i == 0 ? lines - 1 : between(dice, TWO_BYTES / 2, lines - 1);
-        size_t turned = turn_line(at, make_far(dice, lines, 0, 0));
-        enum class class = (enum class)((i == 0 ? FAR_MIXED_OLD_LOADED : MIXED_OF_65535_OLD_LOADED)
-                                        + 3 * form);
-        expect(class, at > 600, load_far(dice, turned), 22);
-        expect((enum class)(class + 1), at > 600,
-               both_move(NEW_FORM, saved, turned, out, sizeof out), 22);
-        expect((enum class)(class + 2), at > 600,
-               both_move(OLD_FORM, saved, turned, out, sizeof out), 22);
-    }
+    size_t lines = between(dice, 602, 700), at = between(dice, 601, lines - 1);
+    refuse_far(dice, turn_line(lines - 1, make_far(dice, lines, 0, 0)), FAR_MIXED_OLD_LOADED);
+    size_t length = make_far(dice, lines, 0, 0);
+    line_at(at)[0] = form == OLD_FORM ? IN_KIND_LINE : IN_KIND_OLD_LINE;
+    refuse_far(dice, length, FAR_KIND_OLD_LOADED);
+    at = between(dice, TWO_BYTES / 2, TWO_BYTES - 2);
+    refuse_far(dice, turn_line(at, make_far(dice, TWO_BYTES - 1, 0, 0)), MIXED_OF_65535_OLD_LOADED);
 }
 
 /* The key of a line stands again at another, under titles that differ as told. */
