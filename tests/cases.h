@@ -64,7 +64,8 @@ void order_at_edge(struct dice *dice, struct shelf *shelf, const uint8_t *accoun
                    size_t copies, enum class class);
 
 /* compare_save.c: a save of any sound book, loaded again, gives it back where its keys
-   allow; one of a book made by bookings is moved there and back as well. */
+   allow; one of a book made by bookings is moved there and back as well, a large one now and
+   then. */
 void save_and_load(struct dice *dice, struct shelf *shelf, int by_bookings);
 
 /* compare_save.c: saves the book and loads it into rooms of the same size, now and then from

@@ -50,6 +50,12 @@ static uint64_t move_far(size_t length)
     return both_move(form == OLD_FORM ? NEW_FORM : OLD_FORM, saved, length, out, sizeof out);
 }
 
+/* One of both, for a save that is 22 to either. */
+static uint64_t try_far(struct dice *dice, size_t length)
+{
+    return chance(dice, 2) ? move_far(length) : load_far(dice, length);
+}
+
 /* A valid save in which each line has a school of its own. */
 static size_t make_mixed_save(struct dice *dice, size_t lines, size_t slips)
 {
@@ -90,10 +96,9 @@ static void try_faulty(struct dice *dice, size_t length, uint8_t *entry,
                        const struct fault *fault, enum class class)
 {
     uint8_t right[IN_SAVED_LINE];
-    int moves = chance(dice, 2);
     memcpy(right, entry, IN_SAVED_LINE);
     memcpy(entry + fault->place, fault->bytes, fault->width);
-    expect(class, 1, moves ? move_far(length) : load_far(dice, length), 22);
+    expect(class, 1, try_far(dice, length), 22);
     memcpy(entry, right, IN_SAVED_LINE);
 }
 
@@ -172,8 +177,8 @@ static void refuse_far(struct dice *dice, size_t length, enum class class)
     expect((enum class)(class + 2), 1, both_move(OLD_FORM, saved, length, out, sizeof out), 22);
 }
 
-/* Saves with one line of the other kind far behind: of the width that goes with it, also where
-   there are as many lines as two bytes count, and of the width that the others have. */
+/* Saves with one line of the other kind far behind: of the width that goes with it, and of the
+   width that the others have. */
 static void mix_far_kinds(struct dice *dice)
 {
     size_t lines = between(dice, 602, 700), at = between(dice, 601, lines - 1);
@@ -181,8 +186,6 @@ static void mix_far_kinds(struct dice *dice)
     size_t length = make_far(dice, lines, 0, 0);
     line_at(at)[0] = form == OLD_FORM ? IN_KIND_LINE : IN_KIND_OLD_LINE;
     refuse_far(dice, length, FAR_KIND_OLD_LOADED);
-    at = between(dice, TWO_BYTES / 2, TWO_BYTES - 2);
-    refuse_far(dice, turn_line(at, make_far(dice, TWO_BYTES - 1, 0, 0)), MIXED_OF_65535_OLD_LOADED);
 }
 
 /* The key of a line stands again at another, under titles that differ as told. */
@@ -197,8 +200,7 @@ static void load_line_again(struct dice *dice, size_t length, size_t first, size
     memcpy(line_at(again) + 1 + IN_KEY, titles.other, IN_TITLE);
     memcpy(line_at(again) + 1, line_at(first) + 1, IN_KEY);
     enum class same = again > 600 ? SAVED_600_OF_SAME : SAVED_256_OF_SAME;
-    expect((enum class)(same + change), again >= 256,
-           load_far(dice, length), 22);
+    expect((enum class)(same + change), again >= 256, try_far(dice, length), 22);
     memcpy(line_at(again), right, saved_width(form));
 }
 
@@ -217,24 +219,23 @@ static void load_lines_again(struct dice *dice)
     insist(load_far(dice, length) == 23, "without its repeats it is valid");
 }
 
-/* A key that stands again far behind, the first of the two near or far. */
-static void load_far_repeats(struct dice *dice)
+/* A key that stands again far behind, the first of the two near or far; each form meets two of
+   three such places. */
+static void try_far_repeats(struct dice *dice)
 {
     size_t lines = between(dice, 610, 700), slips = between(dice, 1101, 1300);
-    for (size_t i = 0; i < 3; i++) {
+    for (size_t i = form; i < 2 + (size_t)form; i++) {
         size_t length = make_far(dice, lines, slips, 0);
         size_t again = between(dice, 605, lines - 1);
         size_t first = i == 0 ? below(dice, 64) : i == 1 ? between(dice, 64, 600) : again - 1;
         memcpy(line_at(again) + 1, line_at(first) + 1, IN_KEY);
-        expect(LINES_REPEATED_PAST_600, again > 600,
-               load_far(dice, length), 22);
+        expect(LINES_REPEATED_PAST_600, again > 600, try_far(dice, length), 22);
         length = make_far(dice, lines, slips, 0);
         again = between(dice, 1030, slips - 1);
         first = i == 0 ? below(dice, 64) : i == 1 ? between(dice, 64, 1024)
                        : between(dice, 1025, again - 1);
         memcpy(slip_at(lines, again) + 1, slip_at(lines, first) + 1, IN_SLIP_KEY);
-        expect(SLIPS_REPEATED_PAST_1024, again > 1024,
-               load_far(dice, length), 22);
+        expect(SLIPS_REPEATED_PAST_1024, again > 1024, try_far(dice, length), 22);
     }
 }
 
@@ -253,18 +254,16 @@ static size_t make_full_line(struct dice *dice, size_t line, size_t slips, size_
    of 9,999 copies and one of 999 make the limit. */
 static void load_sums(struct dice *dice)
 {
-    const size_t lines[] = {0, 1, 2, 3, between(dice, 4, 63), between(dice, 64, 255), 256,
+    const size_t lines[] = {below(dice, 3), 3, between(dice, 4, 63), between(dice, 64, 255), 256,
                             between(dice, 257, 508)};
     for (size_t i = 0; i < sizeof lines / sizeof lines[0]; i++) {
         size_t length = make_full_line(dice, lines[i], 1001, 999);
         insist(load_far(dice, length) == 0, "a sum at the limit loads");
         length = make_full_line(dice, lines[i], 1001, 1000);
-        expect(SUM_OVER_LIMIT_FROM_LINE_3, lines[i] >= 3,
-               load_far(dice, length), 22);
+        expect(SUM_OVER_LIMIT_FROM_LINE_3, lines[i] >= 3, try_far(dice, length), 22);
     }
     size_t length = make_full_line(dice, 5, 1700, MOST_COPIES);
-    expect(SUM_OVER_2_24, 1700 * MOST_COPIES > 1 << 24,
-           load_far(dice, length), 22);
+    expect(SUM_OVER_2_24, 1700 * MOST_COPIES > 1 << 24, try_far(dice, length), 22);
 }
 
 /* Two lines that their low byte does not tell apart, over the limit together alone. */
@@ -294,12 +293,13 @@ static void load_mixed_sums(struct dice *dice)
     }
 }
 
-/* As many entries as fit, one more of either, and a bit of one turned. */
+/* As many entries as fit, one more of either, each in one of the forms, and a bit of one turned. */
 static void load_full(struct dice *dice)
 {
-    static const size_t sizes[][2] = {{512, 1024}, {513, 1}, {1, 1025}, {511, 0}};
-    for (size_t i = 0; i < sizeof sizes / sizeof sizes[0]; i++) {
-        size_t lines = sizes[i][0], slips = sizes[i][1];
+    static const size_t sizes[SAVED_FORMS][3][2] = {{{512, 1024}, {513, 1}, {510, 1}},
+                                                    {{512, 1024}, {1, 1025}, {511, 0}}};
+    for (size_t i = 0; i < sizeof sizes[form] / sizeof sizes[form][0]; i++) {
+        size_t lines = sizes[form][i][0], slips = sizes[form][i][1];
         size_t length = make_mixed_save(dice, lines, slips);
         insist(load_far(dice, length)
                == (lines > MOST_LINES || slips > MOST_SLIPS ? 23u : 0u), "full rooms load");
@@ -320,23 +320,35 @@ static void load_far_parties(struct dice *dice)
     memcpy(school, line_at(line) + 1, IN_PARTY);
     insist(load_far(dice, length) == 0, "a slip of a far line loads");
     memcpy(school, line_at(below(dice, 256)) + 1, IN_PARTY);
-    expect(SAVED_PARTY_OF_LINE_FROM_256, 1, load_far(dice, length), 22);
+    expect(SAVED_PARTY_OF_LINE_FROM_256, 1, try_far(dice, length), 22);
     memcpy(school, line_at(line) + 1, IN_PARTY);
     slip[1] = slip[1] == '7' ? '8' : '7';
-    expect(SAVED_PARTY_OF_LINE_FROM_256, 1, load_far(dice, length), 22);
+    expect(SAVED_PARTY_OF_LINE_FROM_256, 1, try_far(dice, length), 22);
+}
+
+/* Ends the save behind so many of its lines; gives its length. */
+static size_t end_behind(size_t lines)
+{
+    uint8_t *end = line_at(lines);
+    end[0] = IN_KIND_END;
+    put_little(end + IN_KIND_BYTE, 2, lines);
+    put_little(end + IN_KIND_BYTE + 2, 2, 0);
+    return lines * saved_width(form) + IN_SAVED_END;
 }
 
 /* More entries than two bytes count, with nothing else wrong: the two bytes that stand there
-   are too few. */
+   are too few. And as many lines as they count, with one of the other kind far behind. */
 static void load_past_two_bytes(struct dice *dice)
 {
-    size_t few = below(dice, 3);
+    size_t few = below(dice, 3), at = between(dice, TWO_BYTES / 2, TWO_BYTES - 2);
     size_t length = make_far(dice, TWO_BYTES + few, 0, 0);
     expect(SAVED_LINES_MODULO_65536, get_little(saved + length - IN_SAVED_LINES_COUNT, 2) == few,
-           load_far(dice, length), 22);
+           try_far(dice, length), 22);
+    length = turn_line(at, end_behind(TWO_BYTES - 1));
+    refuse_far(dice, length, MIXED_OF_65535_OLD_LOADED);
     length = make_far(dice, 2, TWO_BYTES + few, 1);
     expect(SAVED_SLIPS_MODULO_65536, get_little(saved + length - IN_SAVED_SLIPS_COUNT, 2) == few,
-           load_far(dice, length), 22);
+           try_far(dice, length), 22);
 }
 
 /* Slips of lines that their low byte would take for one that is there. */
@@ -348,8 +360,7 @@ static void load_far_lines_of_slips(struct dice *dice)
         uint8_t *slip = slip_at(lines, below(dice, slips));
         size_t line = get_little(slip + SAVED_LINE_OF_SLIP, 2);
         put_little(slip + SAVED_LINE_OF_SLIP, 2, line ^ (size_t)1 << bit);
-        expect(SAVED_LINE_OF_SLIP_FAR, line < lines,
-               load_far(dice, length), 22);
+        expect(SAVED_LINE_OF_SLIP_FAR, line < lines, try_far(dice, length), 22);
         put_little(slip + SAVED_LINE_OF_SLIP, 2, line);
     }
 }
@@ -377,7 +388,7 @@ static void load_lost_slips(struct dice *dice)
         insist(load_far(dice, length) == (slips[i] > MOST_SLIPS ? 23u : 0u),
                "a school may be its own supplier");
         put_little(slip + SAVED_LINE_OF_SLIP, 2, lines);
-        expect(SAVED_SLIP_OF_NEXT_LINE, 1, load_far(dice, length), 22);
+        expect(SAVED_SLIP_OF_NEXT_LINE, 1, try_far(dice, length), 22);
         length = make_own_supplier(dice, 1, slips[i]);
         put_little(saved + length - IN_SAVED_LINES_COUNT, 2, 0);
         expect(SAVED_SLIPS_WITHOUT_LINES, 1,
@@ -416,7 +427,7 @@ void compare_far_saves(struct dice *dice)
     for (size_t i = 0; i < SAVED_FORMS; i++) {
         form = (enum saved_form)i;
         try_far_faults(dice);
-        load_far_repeats(dice);
+        try_far_repeats(dice);
         load_lines_again(dice);
         load_full(dice);
         load_far_parties(dice);

@@ -3,6 +3,8 @@
 
 #include <string.h>
 
+enum { MANY_SLIPS = 100 };
+
 int is_same_book(const struct shelf *shelf, const struct shelf *other)
 {
     return memcmp(other->used, shelf->used, sizeof other->used) == 0
@@ -26,7 +28,7 @@ void save_and_load(struct dice *dice, struct shelf *shelf, int by_bookings)
     other.used[0] = (size_t)roll(dice);
     if (both_load(saved, length, &other) == 0 && by_bookings)
         insist(is_same_book(shelf, &other), "load of a save gives the same book");
-    if (by_bookings)
+    if (by_bookings && (shelf->used[1] < MANY_SLIPS || chance(dice, 8)))
         move_book(dice, shelf);
 }
 

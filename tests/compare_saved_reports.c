@@ -128,19 +128,20 @@ static struct walk *start_walk(struct dice *dice)
     return &walk;
 }
 
-/* Every value of every byte of a state, beside each kind of state; on the states by J, and on
-   those by N, each value meets one of the calls, and on none both. */
+/* Every value of every byte of a state, beside messages with each form of the date, an unknown
+   one and none; each value meets both calls. */
 static void walk_bytes(struct dice *dice)
 {
+    static const size_t kinds[] = {0, 3, 4, 7, STATES - 1};
     struct walk *walk = start_walk(dice);
     uint8_t *line = line_in(walk->saved, 0), state[IN_LINE];
-    for (size_t kind = 0; kind < STATES + 1; kind++) {
-        make_state_of(dice, kind < STATES ? kind : STATES - 1, state);
+    for (size_t i = 0; i < sizeof kinds / sizeof kinds[0]; i++) {
+        make_state_of(dice, kinds[i], state);
         for (size_t place = IN_MARK; place < IN_ARRIVED; place++)
             for (size_t value = 0; value < 256; value++) {
                 memcpy(line + IN_MARK, state + IN_MARK, IN_STATE);
                 line[place] = (uint8_t)value;
-                walk_state(walk->saved, walk->length, &walk->room, kind + place + value,
+                walk_state(walk->saved, walk->length, &walk->room, i + place + value,
                            SAVED_BYTES_LOADED);
             }
     }
