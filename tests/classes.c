@@ -58,72 +58,58 @@ static const char *const words[CLASS_COUNT] = {
     [EMPTY_LOADED] = "a save without lines loaded",
     [EMPTY_TO_OLD] = "a save without lines moved to the old form",
     [EMPTY_TO_NEW] = "a save without lines moved to the new form",
-    [WHOLE_OLD_LOADED] = "a whole save of the old form, to be loaded",
-    [WHOLE_OLD_TO_NEW] = "a whole save of the old form, to be moved to the new form",
-    [WHOLE_OLD_TO_OLD] = "a whole save of the old form, to be moved to the old form",
-    [WHOLE_NEW_LOADED] = "a whole save of the new form, to be loaded",
-    [WHOLE_NEW_TO_NEW] = "a whole save of the new form, to be moved to the new form",
-    [WHOLE_NEW_TO_OLD] = "a whole save of the new form, to be moved to the old form",
+    [WHOLE_OLD_LOADED] = "a whole save of the old form, in loading",
+    [WHOLE_OLD_TO_NEW] = "a whole save of the old form, in old to new",
+    [WHOLE_OLD_TO_OLD] = "a whole save of the old form, in new to old",
+    [WHOLE_NEW_LOADED] = "a whole save of the new form, in loading",
+    [WHOLE_NEW_TO_NEW] = "a whole save of the new form, in old to new",
+    [WHOLE_NEW_TO_OLD] = "a whole save of the new form, in new to old",
     [MIXED_OLD_FIRST_LOADED] =
-        "22 for a save of both kinds, the first of the old form, to be loaded",
+        "22 for a save of both kinds, the first of the old form, in loading",
     [MIXED_OLD_FIRST_TO_NEW] =
-        "22 for a save of both kinds, the first of the old form, to be moved to the new form",
+        "22 for a save of both kinds, the first of the old form, in old to new",
     [MIXED_OLD_FIRST_TO_OLD] =
-        "22 for a save of both kinds, the first of the old form, to be moved to the old form",
+        "22 for a save of both kinds, the first of the old form, in new to old",
     [MIXED_NEW_FIRST_LOADED] =
-        "22 for a save of both kinds, the first of the new form, to be loaded",
+        "22 for a save of both kinds, the first of the new form, in loading",
     [MIXED_NEW_FIRST_TO_NEW] =
-        "22 for a save of both kinds, the first of the new form, to be moved to the new form",
+        "22 for a save of both kinds, the first of the new form, in old to new",
     [MIXED_NEW_FIRST_TO_OLD] =
-        "22 for a save of both kinds, the first of the new form, to be moved to the old form",
-    [KIND_EXCHANGED_OLD_LOADED] =
-        "22 for lines of the old form under the other kind, to be loaded",
+        "22 for a save of both kinds, the first of the new form, in new to old",
+    [KIND_EXCHANGED_OLD_LOADED] = "22 for lines of the old form under the other kind, in loading",
     [KIND_EXCHANGED_OLD_TO_NEW] =
-        "22 for lines of the old form under the other kind, to be moved to the new form",
+        "22 for lines of the old form under the other kind, in old to new",
     [KIND_EXCHANGED_OLD_TO_OLD] =
-        "22 for lines of the old form under the other kind, to be moved to the old form",
-    [KIND_EXCHANGED_NEW_LOADED] =
-        "22 for lines of the new form under the other kind, to be loaded",
+        "22 for lines of the old form under the other kind, in new to old",
+    [KIND_EXCHANGED_NEW_LOADED] = "22 for lines of the new form under the other kind, in loading",
     [KIND_EXCHANGED_NEW_TO_NEW] =
-        "22 for lines of the new form under the other kind, to be moved to the new form",
+        "22 for lines of the new form under the other kind, in old to new",
     [KIND_EXCHANGED_NEW_TO_OLD] =
-        "22 for lines of the new form under the other kind, to be moved to the old form",
-    [CUT_OLD_LOADED] = "22 for a save of the old form that is cut, to be loaded",
-    [CUT_OLD_TO_NEW] = "22 for a save of the old form that is cut, to be moved to the new form",
-    [CUT_OLD_TO_OLD] = "22 for a save of the old form that is cut, to be moved to the old form",
-    [CUT_NEW_LOADED] = "22 for a save of the new form that is cut, to be loaded",
-    [CUT_NEW_TO_NEW] = "22 for a save of the new form that is cut, to be moved to the new form",
-    [CUT_NEW_TO_OLD] = "22 for a save of the new form that is cut, to be moved to the old form",
-    [DAMAGED_OLD_LOADED] = "a save of the old form with a byte damaged, to be loaded",
-    [DAMAGED_OLD_TO_NEW] =
-        "a save of the old form with a byte damaged, to be moved to the new form",
-    [DAMAGED_OLD_TO_OLD] =
-        "a save of the old form with a byte damaged, to be moved to the old form",
-    [DAMAGED_NEW_LOADED] = "a save of the new form with a byte damaged, to be loaded",
-    [DAMAGED_NEW_TO_NEW] =
-        "a save of the new form with a byte damaged, to be moved to the new form",
-    [DAMAGED_NEW_TO_OLD] =
-        "a save of the new form with a byte damaged, to be moved to the old form",
-    [LONGER_OLD_LOADED] = "22 for a save of the old form with bytes behind it, to be loaded",
-    [LONGER_OLD_TO_NEW] =
-        "22 for a save of the old form with bytes behind it, to be moved to the new form",
-    [LONGER_OLD_TO_OLD] =
-        "22 for a save of the old form with bytes behind it, to be moved to the old form",
-    [LONGER_NEW_LOADED] = "22 for a save of the new form with bytes behind it, to be loaded",
-    [LONGER_NEW_TO_NEW] =
-        "22 for a save of the new form with bytes behind it, to be moved to the new form",
-    [LONGER_NEW_TO_OLD] =
-        "22 for a save of the new form with bytes behind it, to be moved to the old form",
-    [ENTRIES_OLD_LOADED] = "entries of the old form repeated, exchanged or wrong, to be loaded",
-    [ENTRIES_OLD_TO_NEW] =
-        "entries of the old form repeated, exchanged or wrong, to be moved to the new form",
-    [ENTRIES_OLD_TO_OLD] =
-        "entries of the old form repeated, exchanged or wrong, to be moved to the old form",
-    [ENTRIES_NEW_LOADED] = "entries of the new form repeated, exchanged or wrong, to be loaded",
-    [ENTRIES_NEW_TO_NEW] =
-        "entries of the new form repeated, exchanged or wrong, to be moved to the new form",
-    [ENTRIES_NEW_TO_OLD] =
-        "entries of the new form repeated, exchanged or wrong, to be moved to the old form",
+        "22 for lines of the new form under the other kind, in new to old",
+    [CUT_OLD_LOADED] = "22 for a save of the old form that is cut, in loading",
+    [CUT_OLD_TO_NEW] = "22 for a save of the old form that is cut, in old to new",
+    [CUT_OLD_TO_OLD] = "22 for a save of the old form that is cut, in new to old",
+    [CUT_NEW_LOADED] = "22 for a save of the new form that is cut, in loading",
+    [CUT_NEW_TO_NEW] = "22 for a save of the new form that is cut, in old to new",
+    [CUT_NEW_TO_OLD] = "22 for a save of the new form that is cut, in new to old",
+    [DAMAGED_OLD_LOADED] = "a save of the old form with a byte damaged, in loading",
+    [DAMAGED_OLD_TO_NEW] = "a save of the old form with a byte damaged, in old to new",
+    [DAMAGED_OLD_TO_OLD] = "a save of the old form with a byte damaged, in new to old",
+    [DAMAGED_NEW_LOADED] = "a save of the new form with a byte damaged, in loading",
+    [DAMAGED_NEW_TO_NEW] = "a save of the new form with a byte damaged, in old to new",
+    [DAMAGED_NEW_TO_OLD] = "a save of the new form with a byte damaged, in new to old",
+    [LONGER_OLD_LOADED] = "22 for a save of the old form with bytes behind it, in loading",
+    [LONGER_OLD_TO_NEW] = "22 for a save of the old form with bytes behind it, in old to new",
+    [LONGER_OLD_TO_OLD] = "22 for a save of the old form with bytes behind it, in new to old",
+    [LONGER_NEW_LOADED] = "22 for a save of the new form with bytes behind it, in loading",
+    [LONGER_NEW_TO_NEW] = "22 for a save of the new form with bytes behind it, in old to new",
+    [LONGER_NEW_TO_OLD] = "22 for a save of the new form with bytes behind it, in new to old",
+    [ENTRIES_OLD_LOADED] = "entries of the old form repeated, exchanged or wrong, in loading",
+    [ENTRIES_OLD_TO_NEW] = "entries of the old form repeated, exchanged or wrong, in old to new",
+    [ENTRIES_OLD_TO_OLD] = "entries of the old form repeated, exchanged or wrong, in new to old",
+    [ENTRIES_NEW_LOADED] = "entries of the new form repeated, exchanged or wrong, in loading",
+    [ENTRIES_NEW_TO_NEW] = "entries of the new form repeated, exchanged or wrong, in old to new",
+    [ENTRIES_NEW_TO_OLD] = "entries of the new form repeated, exchanged or wrong, in new to old",
     [OLD_THERE_AND_BACK] = "an old save moved to its new form",
     [NEW_THERE_AND_BACK] = "the new form of an old save moved back",
     [OLD_LOADED_AS_ITS_NEW] = "an old save loaded as its new form is",
@@ -156,44 +142,44 @@ static const char *const words[CLASS_COUNT] = {
     [MOVED_OVER_600_OLD_LINES] = "an old save of over 600 lines moved",
     [MOVED_OVER_600_NEW_LINES] = "a new save of over 600 lines moved",
     [FAR_MIXED_OLD_LOADED] =
-        "22 for the last of over 600 lines of another kind, the first of the old form, to be loaded",
+        "22 for another kind on the last of over 600 lines of the old form, in loading",
     [FAR_MIXED_OLD_TO_NEW] =
-        "22 for the last of over 600 lines of another kind, the first of the old form, to be moved to the new form",
+        "22 for another kind on the last of over 600 lines of the old form, in old to new",
     [FAR_MIXED_OLD_TO_OLD] =
-        "22 for the last of over 600 lines of another kind, the first of the old form, to be moved to the old form",
+        "22 for another kind on the last of over 600 lines of the old form, in new to old",
     [FAR_MIXED_NEW_LOADED] =
-        "22 for the last of over 600 lines of another kind, the first of the new form, to be loaded",
+        "22 for another kind on the last of over 600 lines of the new form, in loading",
     [FAR_MIXED_NEW_TO_NEW] =
-        "22 for the last of over 600 lines of another kind, the first of the new form, to be moved to the new form",
+        "22 for another kind on the last of over 600 lines of the new form, in old to new",
     [FAR_MIXED_NEW_TO_OLD] =
-        "22 for the last of over 600 lines of another kind, the first of the new form, to be moved to the old form",
+        "22 for another kind on the last of over 600 lines of the new form, in new to old",
     [MIXED_OF_65535_OLD_LOADED] =
-        "22 for one of 65,535 lines of another kind, the first of the old form, to be loaded",
+        "22 for another kind on one of 65,535 lines of the old form, in loading",
     [MIXED_OF_65535_OLD_TO_NEW] =
-        "22 for one of 65,535 lines of another kind, the first of the old form, to be moved to the new form",
+        "22 for another kind on one of 65,535 lines of the old form, in old to new",
     [MIXED_OF_65535_OLD_TO_OLD] =
-        "22 for one of 65,535 lines of another kind, the first of the old form, to be moved to the old form",
+        "22 for another kind on one of 65,535 lines of the old form, in new to old",
     [MIXED_OF_65535_NEW_LOADED] =
-        "22 for one of 65,535 lines of another kind, the first of the new form, to be loaded",
+        "22 for another kind on one of 65,535 lines of the new form, in loading",
     [MIXED_OF_65535_NEW_TO_NEW] =
-        "22 for one of 65,535 lines of another kind, the first of the new form, to be moved to the new form",
+        "22 for another kind on one of 65,535 lines of the new form, in old to new",
     [MIXED_OF_65535_NEW_TO_OLD] =
-        "22 for one of 65,535 lines of another kind, the first of the new form, to be moved to the old form",
+        "22 for another kind on one of 65,535 lines of the new form, in new to old",
     [FAR_KIND_OLD_LOADED] =
-        "22 for a line past 600 of the old form under the other kind, to be loaded",
+        "22 for another kind alone past line 600 of the old form, in loading",
     [FAR_KIND_OLD_TO_NEW] =
-        "22 for a line past 600 of the old form under the other kind, to be moved to the new form",
+        "22 for another kind alone past line 600 of the old form, in old to new",
     [FAR_KIND_OLD_TO_OLD] =
-        "22 for a line past 600 of the old form under the other kind, to be moved to the old form",
+        "22 for another kind alone past line 600 of the old form, in new to old",
     [FAR_KIND_NEW_LOADED] =
-        "22 for a line past 600 of the new form under the other kind, to be loaded",
+        "22 for another kind alone past line 600 of the new form, in loading",
     [FAR_KIND_NEW_TO_NEW] =
-        "22 for a line past 600 of the new form under the other kind, to be moved to the new form",
+        "22 for another kind alone past line 600 of the new form, in old to new",
     [FAR_KIND_NEW_TO_OLD] =
-        "22 for a line past 600 of the new form under the other kind, to be moved to the old form",
-    [STATE_LOADED] = "a report of any kind in a save, loaded",
-    [STATE_TO_NEW] = "a report of any kind in a save, to be moved to the new form",
-    [STATE_TO_OLD] = "a report of any kind in a save, to be moved to the old form",
+        "22 for another kind alone past line 600 of the new form, in new to old",
+    [STATE_LOADED] = "a report of any kind in a save, in loading",
+    [STATE_TO_NEW] = "a report of any kind in a save, in old to new",
+    [STATE_TO_OLD] = "a report of any kind in a save, in new to old",
     [SAVED_MESSAGE_STATE] = "22 for a message with mark none in a save",
     [SAVED_MESSAGE_STATE_HELD] = "a message with J in a save",
     [SAVED_MESSAGE_STATE_LET_GO] = "a message with N in a save",
@@ -446,7 +432,8 @@ static const char *const words[CLASS_COUNT] = {
     [LENT_ARTICLE_OF_ANY_BYTES] = "a stored line with an article that no record can have",
     [FIRST_OF_KEY_AGREES] = "the first of two lines with a key has the record's article",
     [LATER_OF_KEY_AGREES] = "a later line with the key alone has the record's article",
-    [FIRST_OF_KEY_FAR] = "a line from 256 on with the key and article of the record, not the first",
+    [FIRST_OF_KEY_FAR] =
+        "a line from 256 on with the key and article of the record, not the first",
     [SLIP_AGAIN_ON_LATER_OF_KEY] = "17 by a slip of a later line with the key",
     [REFUSED_WITH_ARTICLE] = "a refusal of a record that names the line's article",
     [REFUSED_WITH_OTHER_ARTICLE] = "a refusal of a record that names another article",

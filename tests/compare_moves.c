@@ -112,7 +112,8 @@ static void move_any(struct dice *dice)
     uint8_t saves[SAVED_FORMS][SMALL_SAVE];
     for (size_t i = 0; i < 12; i++) {
         enum saved_form form = (enum saved_form)(i % SAVED_FORMS), to = other_form(form);
-        size_t lines = between(dice, 1, LINES), slips = below(dice, SLIPS + 1), lengths[SAVED_FORMS];
+        size_t lines = between(dice, 1, LINES), slips = below(dice, SLIPS + 1);
+        size_t lengths[SAVED_FORMS];
         lengths[form] = make_save(dice, saves[form], form, lines, slips, 0);
         if (form == NEW_FORM)
             forget_numbers(saves[form], lines);
@@ -160,7 +161,8 @@ static void move_into_some(struct dice *dice, enum saved_form to)
 static void move_into_all(struct dice *dice, enum saved_form to)
 {
     uint8_t saved[SMALL_SAVE];
-    size_t lines = between(dice, 1, 2), slips = below(dice, 2), needed = save_length(to, lines, slips);
+    size_t lines = between(dice, 1, 2), slips = below(dice, 2);
+    size_t needed = save_length(to, lines, slips);
     size_t length = make_save(dice, saved, other_form(to), lines, slips, 0);
     if (to == OLD_FORM)
         forget_numbers(saved, lines);
@@ -187,9 +189,9 @@ static void move_other_form(struct dice *dice)
    something else is wrong as well. */
 static void lose_message(struct dice *dice, size_t lines, size_t at, size_t message)
 {
-    uint8_t saved[SMALL_SAVE];
-    size_t slips = below(dice, SLIPS + 1), length = make_save(dice, saved, NEW_FORM, lines, slips, 0);
-    size_t needed = save_length(OLD_FORM, lines, slips);
+    uint8_t saved[SMALL_ROOM];
+    size_t slips = below(dice, SLIPS + 1), needed = save_length(OLD_FORM, lines, slips);
+    size_t length = make_save(dice, saved, NEW_FORM, lines, slips, 0);
     forget_numbers(saved, lines);
     expect(NOTHING_LOST, 1, both_move(OLD_FORM, saved, length, moved, needed), 0);
     put_number(dice, saved, at, message);
@@ -202,7 +204,7 @@ static void lose_message(struct dice *dice, size_t lines, size_t at, size_t mess
     switch (below(dice, 4)) {
     case 0: length--; break;
     case 1: length++; break;
-    case 2: put_little(saved_line(saved, NEW_FORM, below(dice, lines)) + 1 + IN_ORDERED, 2, 0); break;
+    case 2: saved_line(saved, NEW_FORM, below(dice, lines))[0] = IN_KIND_SLIP; break;
     default: put_little(saved + length - IN_SAVED_SLIPS_COUNT, 2, slips + 1); break;
     }
     expect(INVALID_BEFORE_28, 1, both_move(OLD_FORM, saved, length, moved, SMALL_ROOM), 22);

@@ -321,7 +321,8 @@ static void save_states(struct dice *dice)
                both_load(saved, length, &loaded), 0);
         insist(is_same_book(&shelf, &loaded) == (form == NEW_FORM),
                "a save of the new form keeps the reports, one of the old form does not");
-        expect((enum class)(SAVED_AGAIN_FROM_OLD + form), 1, both_save(&loaded, again, new_length), 0);
+        expect((enum class)(SAVED_AGAIN_FROM_OLD + form), 1,
+               both_save(&loaded, again, new_length), 0);
         insist((memcmp(again, saved, length) == 0) == (form == NEW_FORM),
                "what was loaded from the new form has the save that it came from");
         for (size_t j = 0; j < STATES; j++) {
