@@ -141,6 +141,8 @@ static const char *const words[CLASS_COUNT] = {
     [LOST_PAST_LINE_600] = "28 for a message past line 600 alone",
     [MOVED_OVER_600_OLD_LINES] = "an old save of over 600 lines moved",
     [MOVED_OVER_600_NEW_LINES] = "a new save of over 600 lines moved",
+    [OVER_600_OLD_TO_OLD_IS_22] = "22 for an old save of over 600 lines to move to the old form",
+    [OVER_600_NEW_TO_NEW_IS_22] = "22 for a new save of over 600 lines to move to the new form",
     [FAR_MIXED_OLD_LOADED] =
         "22 for another kind on the last of over 600 lines of the old form, in loading",
     [FAR_MIXED_OLD_TO_NEW] =

@@ -43,11 +43,17 @@ static uint64_t load_far(struct dice *dice, size_t length)
     return both_load(saved, length, largest_shelf(dice));
 }
 
-/* The move that takes the form of the save, into an output that is large enough. */
-static uint64_t move_far(size_t length)
+/* A move into an output that is large enough. */
+static uint64_t move_far_to(enum saved_form to, size_t length)
 {
     static uint8_t out[SAVE_ROOM];
-    return both_move(form == OLD_FORM ? NEW_FORM : OLD_FORM, saved, length, out, sizeof out);
+    return both_move(to, saved, length, out, sizeof out);
+}
+
+/* The move that takes the form of the save. */
+static uint64_t move_far(size_t length)
+{
+    return move_far_to(form == OLD_FORM ? NEW_FORM : OLD_FORM, length);
 }
 
 /* One of both, for a save that is 22 to either. */
@@ -108,8 +114,8 @@ static uint8_t *far_line(struct dice *dice, size_t lines, size_t turn)
     return line_at(turn % 3 ? between(dice, 601, lines - 1) : lines - 1);
 }
 
-/* A valid save of more entries than any room takes is 23 to load; with one fault far behind it
-   is 22 to load and to move. */
+/* A valid save of more entries than any room takes is 23 to load, and the move of its own form
+   takes it; with one fault far behind it is 22 to load and to move. */
 static void try_far_faults(struct dice *dice)
 {
     size_t lines = between(dice, 602, 700), slips = between(dice, 1101, 1300);
@@ -129,6 +135,7 @@ static void try_far_faults(struct dice *dice)
     if (form == NEW_FORM)
         forget_numbers(saved, lines);
     expect((enum class)(MOVED_OVER_600_OLD_LINES + form), 1, move_far(length), 0);
+    expect((enum class)(OVER_600_OLD_TO_OLD_IS_22 + form), 1, move_far_to(form, length), 22);
 }
 
 /* In the new form: one message, far behind, would be lost. */
@@ -170,11 +177,10 @@ static size_t turn_line(size_t index, size_t length)
    their order, for each form. */
 static void refuse_far(struct dice *dice, size_t length, enum class class)
 {
-    static uint8_t out[SAVE_ROOM];
     class = (enum class)(class + 3 * form);
     expect(class, 1, load_far(dice, length), 22);
-    expect((enum class)(class + 1), 1, both_move(NEW_FORM, saved, length, out, sizeof out), 22);
-    expect((enum class)(class + 2), 1, both_move(OLD_FORM, saved, length, out, sizeof out), 22);
+    expect((enum class)(class + 1), 1, move_far_to(NEW_FORM, length), 22);
+    expect((enum class)(class + 2), 1, move_far_to(OLD_FORM, length), 22);
 }
 
 /* Saves with one line of the other kind far behind: of the width that goes with it, and of the
