@@ -309,6 +309,23 @@ static void damage_save(struct dice *dice, enum saved_form form)
     }
 }
 
+/* A save of one line without a report, cut where something that may stand behind it would make it
+   whole: at its front, in what the report says, at its slip and at its end. */
+static void cut_at_parts(struct dice *dice, enum saved_form form)
+{
+    uint8_t saved[SMALL_SAVE];
+    const struct shelf *room = small_room(dice);
+    size_t width = saved_width(form), length = make_save(dice, saved, form, 1, 0, 0);
+    const size_t cuts[] = {0, width - IN_DAY, width - IN_DAY - 2, width, length - 1};
+    saved[IN_KIND_BYTE + IN_MARK] = IN_NO_MARK;
+    if (form == NEW_FORM)
+        put_state(saved + IN_KIND_BYTE, IN_NO_MARK, IN_NO_REPORT, BLANK_DATE);
+    for (size_t i = 0; i < sizeof cuts / sizeof cuts[0]; i++)
+        for (size_t j = 0; j < EVERY_GUARD; j++)
+            insist(try_save(dice, saved, cuts[i], room, in_form(CUT_OLD_LOADED, form)) == 22,
+                   "a save that is cut is none, whatever stands behind it");
+}
+
 /* A save with bytes behind it, also such as would be an end, a slip or a line. */
 static void lengthen_save(struct dice *dice, enum saved_form form)
 {
@@ -379,6 +396,7 @@ void compare_moves(struct dice *dice)
         move_into_all(dice, form);
         exchange_kinds(dice, form);
         damage_save(dice, form);
+        cut_at_parts(dice, form);
         lengthen_save(dice, form);
         load_wrong_entries(dice, form);
     }

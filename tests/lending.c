@@ -52,10 +52,10 @@ static size_t desk_words[SIDES][DESK_WORDS];
 
 /* What stands between the pieces: a line, a slip and schools that would count, fields,
    digits, the rest of a kind that was cut, the mark of a bundle and a loop, table entries with
-   ID 1019; lines of a save in both forms, the rest of a line with the end behind it, and ends.
-   It changes from call to call and differs between the sides, so that reading it
+   ID 1019; lines and a slip of a save with the end behind them, the rest of a line, and ends. It
+   changes from call to call and differs between the sides, so that reading it
    shows. */
-static const char guards[][GUARD + SLACK + 1] = {
+static const char guards[EVERY_GUARD][GUARD + SLACK + 1] = {
     "43210     VD24000     VDA-17      9783442756841EN\1\0\0\377\377        \0\0\0\0"
     "**********************",
     "24000     VD43210     VD2024022670012345  0001\0\0\1\0" "000000000000000000000000000000",
@@ -77,16 +77,17 @@ static const char guards[][GUARD + SLACK + 1] = {
     "\0\1\0\0\0" "\0\1\0\0\0",
     "\1" "43210     VD24000     VDA-18      9783442756841EN\1\0\1" "\0\1\0\0\0"
     "\0\1\0\0\0" "\0\1\0\0\0" "\0\1\0\0\0" "\0\1\0\0\0",
-    "\377\377        \0\1\0\0\0" "\376\377        \0\1\0\0\0"
-    "        \0\1\0\0\0" "        \0\2\0\1\0",
+    "\2" "24000     VD43210     VD2024022670012345  0001\0\0\1\0" "\0\1\0\1\0"
+    "\0\1\0\0\0" "\0\1\0\0\0",
+    "\377\377        \0\1\0\0\0" "\376\377        \0\1\0\0\0" "\0\1\0\0\0",
+    "        \0\1\0\0\0" "        \0\2\0\1\0" "\0\1\0\0\0",
     "\0\1\0\0\0" "\0\1\0\0\0" "\0\2\0\1\0" "\0\1\0\1\0" "\0\2\0\0\0",
     "\0"
 };
 
 static const char *guard_of(size_t side)
 {
-    enum { GUARDS = sizeof guards / sizeof guards[0] };
-    return guards[(side == 0 ? tally.call : tally.call / GUARDS) % GUARDS];
+    return guards[(side == 0 ? tally.call : tally.call / EVERY_GUARD) % EVERY_GUARD];
 }
 
 static uint8_t *desk(size_t side)
@@ -635,8 +636,10 @@ static void insist_moved(const struct lending *lending, enum saved_form to, uint
 {
     static uint8_t wanted[SAVE_ROOM];
     const uint8_t *saved = lending->pieces[0].bytes;
-    size_t length = lending->pieces[0].length, lines = lines_stated(saved, length);
+    size_t length = lending->pieces[0].length;
     enum saved_form from = to == NEW_FORM ? OLD_FORM : NEW_FORM;
+    insist(length >= IN_SAVED_END, "a save has an end");
+    size_t lines = lines_stated(saved, length);
     if (length + lines * (IN_SAVED_LINE - IN_SAVED_OLD_LINE) > sizeof wanted)
         abort();
     insist(is_in_form(saved, from), "a move takes its own form alone");

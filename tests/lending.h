@@ -9,7 +9,9 @@ enum call {
     CHECK, WRITE, PARTS, WRITE_PARTS, BOOK, LINE, SAVE, LOAD, TO_NEW, TO_OLD, ACCOUNT, CALL_COUNT
 };
 
-enum { ANSWER_COUNT = 29, KEY_PARTS = 5, MOST_TABLE = 66000 };
+/* So many calls in a row meet every guard there is, also in every second or third of them: it is
+   a prime. */
+enum { ANSWER_COUNT = 29, KEY_PARTS = 5, MOST_TABLE = 66000, EVERY_GUARD = 19 };
 
 /* The calls so far, how often each answer of each call was seen, where we are (the
    round's seed and the number of the call in it), and what the last call gave: the place,

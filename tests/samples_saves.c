@@ -55,6 +55,11 @@ static const struct save_sample save_samples[] = {
     {SAVED("\3" FIRST_AS("\1") ONE), 22, 22, 22},
     {SAVED("\1" FIRST_AS("\1") UNKNOWN BLANK_DATE ONE), 22, 22, 22},
     {SAVED("\4" FIRST_AS("\1") UNKNOWN BLANK_DATE ONE), 22, 22, 22},
+    {SAVED("\203" FIRST_AS("\1") UNKNOWN BLANK_DATE ONE), 22, 22, 22},
+    {SAVED("\201" FIRST_AS("\1") ONE), 22, 22, 22},
+    {SAVED(OLD_FIRST "\201" ORDERED("A-18      ") "\0" BOTH), 22, 22, 22},
+    {SAVED(NEW_FIRST(UNKNOWN, BLANK_DATE) "\203" ORDERED("A-18      ") "\0" ABSENT BLANK_DATE BOTH),
+     22, 22, 22},
     /* messages from end to end, with each form of the date */
     {SAVED(NEW_FIRST("\0\0", "20240315") ONE), 0, 22, 28},
     {SAVED(NEW_FIRST("\0\0", "00000000") ONE), 0, 22, 28},
