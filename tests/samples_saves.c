@@ -21,7 +21,8 @@
 #define UNKNOWN "\376\377"
 #define ABSENT "\377\377"
 #define NUMBER_15 "\17\0"
-#define SAVED_SLIP "\2" "24000     VD" OURS "2024022670012345  0001" "\0\0" "\4\0"
+#define SLIP_BODY "24000     VD" OURS "2024022670012345  0001" "\0\0" "\4\0"
+#define SAVED_SLIP "\2" SLIP_BODY
 #define ENDED(lines, slips) "\0" lines "\0" slips "\0"
 #define BOTH ENDED("\2", "\0")
 #define ONE ENDED("\1", "\0")
@@ -170,7 +171,7 @@ static void load_and_save(const struct side *side, const char *saved, size_t len
     tally.calls += 2;
     insist(loaded.answer == 0 && used[0] == 2 && used[1] == 1
            && memcmp(lines, wanted, 2 * IN_LINE) == 0 && lines[2 * IN_LINE] == FILLED
-           && memcmp(slips, SAVED_SLIP + 1, IN_SLIP) == 0, "a load gives the lines as stated");
+           && memcmp(slips, SLIP_BODY, IN_SLIP) == 0, "a load gives the lines as stated");
     insist(kept.answer == 0 && kept.place == 0 && kept.length == sizeof new_save - 1
            && memcmp(out, again, sizeof new_save - 1) == 0, "a loaded book is saved as stated");
 }
