@@ -27,7 +27,7 @@ endif
 WARNINGS = -std=c99 -Wall -Wextra -pedantic
 LIBRARY = target/staticlib/libwizqamul.a
 REFERENCE = $(wildcard tests/reference_*.c)
-DRIVER = $(wildcard tests/compare*.c tests/input*.c) tests/classes.c tests/lending.c tests/samples.c
+DRIVER = $(wildcard tests/compare*.c tests/input*.c tests/samples*.c) tests/classes.c tests/lending.c
 HEADERS = $(wildcard include/*.h tests/*.h host/*.h)
 RATTLE = crates.txt $(wildcard crates/*/src/*.rt)
 

@@ -37,8 +37,8 @@ enum {
 };
 
 static const size_t sizes[] = {10, 100, 256, MOST_LINES};
-enum { SIZES = sizeof sizes / sizeof sizes[0], BOOK_ROWS = 8, KEY_ROWS = 5, REPORTED_ROWS = 4,
-       ACCOUNT_ROWS = 2, PART_ROWS = 4 };
+enum { SIZES = sizeof sizes / sizeof sizes[0], BOOK_ROWS = 11, KEY_ROWS = 5, REPORTED_ROWS = 4,
+       SAVE_ROW = 6, SAVE_ROWS = 2, ACCOUNT_ROWS = 2, PART_ROWS = 4 };
 
 /* How a number becomes a name of ten bytes: a front that all names share, then its last
    digits in the signs given, then blanks. */
@@ -48,7 +48,7 @@ struct naming { const char *front, *signs; size_t digits; };
    reports came, each with an expected day. */
 struct book_kind {
     const char *name; /* in the table, behind the book's size */
-    size_t rows; /* of book_rows, from the first on */
+    size_t first_row, rows; /* of book_rows */
     size_t first_school, schools;
     struct naming references, slip_numbers;
     int reported;
@@ -56,12 +56,15 @@ struct book_kind {
 #define TEN_SIGNS "0123456789"
 #define MANY_SIGNS TEN_SIGNS "ABCDEFGHIJKLMNOPQRSTUVWXYZabcdefghijklmnopqrstuvwxyz-_"
 static const struct book_kind book_kinds[] = {
-    {"", BOOK_ROWS, MIDDLE, 1, {"R", TEN_SIGNS, 6}, {"70", TEN_SIGNS, 6}, 0},
-    {", thirty schools with the same references", KEY_ROWS, 0, SCHOOLS,
+    {"", 0, BOOK_ROWS, MIDDLE, 1, {"R", TEN_SIGNS, 6}, {"70", TEN_SIGNS, 6}, 0},
+    {", thirty schools with the same references", 0, KEY_ROWS, 0, SCHOOLS,
      {"R", TEN_SIGNS, 6}, {"70", TEN_SIGNS, 6}, 0},
-    {", references that differ in the last bytes", KEY_ROWS, MIDDLE, 1,
+    {", references that differ in the last bytes", 0, KEY_ROWS, MIDDLE, 1,
      {"KLASSE8-", MANY_SIGNS, 2}, {"LS-2024-", MANY_SIGNS, 2}, 0},
-    {", lines reported", REPORTED_ROWS, MIDDLE, 1, {"R", TEN_SIGNS, 6}, {"70", TEN_SIGNS, 6}, 1}
+    {", lines reported", 0, REPORTED_ROWS, MIDDLE, 1, {"R", TEN_SIGNS, 6},
+     {"70", TEN_SIGNS, 6}, 1},
+    {", lines reported", SAVE_ROW, SAVE_ROWS, MIDDLE, 1, {"R", TEN_SIGNS, 6},
+     {"70", TEN_SIGNS, 6}, 1}
 };
 enum { BOOK_KINDS = sizeof book_kinds / sizeof book_kinds[0],
        MOST_ROWS = 2 * (1 + MOST_RECORDS) + BOOK_KINDS * BOOK_ROWS * SIZES + ACCOUNT_ROWS
@@ -85,13 +88,16 @@ struct side {
     wq_saved (*save)(const uint8_t *, size_t, const uint8_t *, size_t, const size_t *,
                      uint8_t *, size_t);
     wq_loaded (*load)(const uint8_t *, size_t, uint8_t *, size_t, uint8_t *, size_t, size_t *);
+    wq_saved (*to_new)(const uint8_t *, size_t, uint8_t *, size_t);
+    wq_saved (*to_old)(const uint8_t *, size_t, uint8_t *, size_t);
     wq_account_told (*account)(const wq_school *, size_t, const uint8_t *, size_t,
                                const uint8_t *, size_t);
 };
 static const struct side sides[SIDES] = {
-    {wq_check, wq_write, wq_parts, wq_write_parts, wq_book, wq_line, wq_save, wq_load, wq_account},
+    {wq_check, wq_write, wq_parts, wq_write_parts, wq_book, wq_line, wq_save, wq_load, wq_to_new,
+     wq_to_old, wq_account},
     {ref_check, ref_write, ref_parts, ref_write_parts, ref_book, ref_line, ref_save, ref_load,
-     ref_account}
+     ref_to_new, ref_to_old, ref_account}
 };
 
 /* A record of the file, and what reading it and its parts gives. */
@@ -144,8 +150,8 @@ static struct record records[MOST_RECORDS], bundles[PART_ROWS / 2];
 static wq_school roster[MOST_SCHOOLS];
 static struct book kept, lent, loaded;
 static size_t references; /* that each school of the book uses */
-static uint8_t saved[SAVE_ROOM], out[SAVE_ROOM];
-static size_t saved_length;
+static uint8_t saved[SAVE_ROOM], old_saved[SAVE_ROOM], out[SAVE_ROOM];
+static size_t saved_length, old_length;
 static struct row rows[MOST_ROWS];
 static size_t row_count;
 
@@ -287,14 +293,48 @@ static uint64_t run_save(const struct side *side, const struct task *task, size_
     return wrong;
 }
 
+static uint64_t load_from(const struct side *side, const uint8_t *bytes, size_t length,
+                          size_t rounds)
+{
+    uint64_t wrong = 0;
+    while (rounds-- > 0) {
+        wq_loaded got = side->load(bytes, length, loaded.lines, kept.lines_length,
+                                   loaded.slips, kept.slips_length, loaded.used);
+        wrong |= got.answer | got.place;
+    }
+    return wrong;
+}
+
 static uint64_t run_load(const struct side *side, const struct task *task, size_t rounds)
+{
+    (void)task;
+    return load_from(side, saved, saved_length, rounds);
+}
+
+static uint64_t run_load_old(const struct side *side, const struct task *task, size_t rounds)
+{
+    (void)task;
+    return load_from(side, old_saved, old_length, rounds);
+}
+
+static uint64_t run_to_new(const struct side *side, const struct task *task, size_t rounds)
 {
     uint64_t wrong = 0;
     (void)task;
     while (rounds-- > 0) {
-        wq_loaded got = side->load(saved, saved_length, loaded.lines, kept.lines_length,
-                                   loaded.slips, kept.slips_length, loaded.used);
-        wrong |= got.answer | got.place;
+        wq_saved got = side->to_new(old_saved, old_length, out, SAVE_ROOM);
+        wrong |= got.answer | got.place | (got.length ^ saved_length);
+    }
+    return wrong;
+}
+
+static uint64_t run_to_old(const struct side *side, const struct task *task, size_t rounds)
+{
+    uint64_t wrong = 0;
+    (void)task;
+    while (rounds-- > 0) {
+        wq_saved got = side->to_old(saved, saved_length, out, SAVE_ROOM);
+        wrong |= got.answer | got.place | (got.length ^ old_length);
     }
     return wrong;
 }
@@ -561,6 +601,13 @@ static void stock(const struct book_kind *kind, size_t lines)
     lent = kept;
 }
 
+static void empty_loaded(void)
+{
+    memset(&loaded, 0, sizeof loaded);
+    loaded.lines_length = kept.lines_length;
+    loaded.slips_length = kept.slips_length;
+}
+
 /* Both sides save the book alike, and load it again as it was. */
 static void agree_on_saves(void)
 {
@@ -572,11 +619,27 @@ static void agree_on_saves(void)
     insist(memcmp(&first, &second, sizeof first) == 0 && first.answer == ANSWER_DONE
            && memcmp(saved, out, saved_length) == 0, "the book is saved differently");
     for (size_t side = 0; side < SIDES; side++) {
-        memset(&loaded, 0, sizeof loaded);
-        loaded.lines_length = kept.lines_length;
-        loaded.slips_length = kept.slips_length;
+        empty_loaded();
         insist(run_load(&sides[side], NULL, 1) == 0
                && memcmp(&loaded, &kept, sizeof kept) == 0, "the book is loaded differently");
+    }
+}
+
+/* Both sides move its save to the old form and back alike, and load the book from there as it
+   was. No line has a message. */
+static void agree_on_moves(void)
+{
+    agree_on_saves();
+    old_length = (size_t)ref_to_old(saved, saved_length, old_saved, SAVE_ROOM).length;
+    insist(old_length > 0, "the save is not moved to the old form");
+    for (size_t side = 0; side < SIDES; side++) {
+        empty_loaded();
+        insist(run_load_old(&sides[side], NULL, 1) == 0
+               && memcmp(&loaded, &kept, sizeof kept) == 0, "the old save is loaded differently");
+        insist(run_to_old(&sides[side], NULL, 1) == 0
+               && memcmp(out, old_saved, old_length) == 0, "the save is moved back differently");
+        insist(run_to_new(&sides[side], NULL, 1) == 0
+               && memcmp(out, saved, saved_length) == 0, "the old save is moved differently");
     }
 }
 
@@ -653,6 +716,14 @@ static struct task save_task(const struct book_kind *kind)
     return task;
 }
 
+static struct task move_task(const struct book_kind *kind)
+{
+    struct task task = one_call;
+    (void)kind;
+    agree_on_moves();
+    return task;
+}
+
 /* --- The rows --- */
 
 static struct row *add_row(const char *call, run *calls)
@@ -720,8 +791,8 @@ static void add_records(const char *call, run *calls, size_t count, int alone)
     }
 }
 
-/* The rows of a book, each in books of all sizes; those that every kind of book has come first,
-   then one that the books whose lines are reported do not have. */
+/* The rows of a book, each in books of all sizes; those that most kinds of books have come first,
+   then, from SAVE_ROW on, save and load, and the calls for a save of the old form. */
 static const struct {
     const char *call;
     run *calls;
@@ -734,7 +805,10 @@ static const struct {
     {"book, delivery repeated (17)", run_book, repeated_task},
     {"book, delivery by the supplier's number", run_book, own_number_task},
     {"save", run_save, save_task},
-    {"load", run_load, save_task}
+    {"load", run_load, save_task},
+    {"load, old form", run_load_old, move_task},
+    {"old to new", run_to_new, move_task},
+    {"new to old", run_to_old, move_task}
 };
 
 static void add_books(const struct book_kind *kind, size_t which)
@@ -769,7 +843,7 @@ static void add_rows(size_t taken, int alone)
     add_bundles("write with parts", run_write_parts);
     for (const struct book_kind *kind = book_kinds; kind < book_kinds + BOOK_KINDS; kind++)
         for (size_t i = 0; i < kind->rows; i++)
-            add_books(kind, i);
+            add_books(kind, kind->first_row + i);
     add_account("account, found", "the middle of 30 schools", "43210     VD", ANSWER_DONE);
     add_account("account, not on the roster (24)", "64 schools", "43201     IB",
                 ANSWER_NOT_ON_ROSTER);

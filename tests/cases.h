@@ -14,12 +14,15 @@ void compare_rosters(struct dice *dice);
 void compare_ceilings(struct dice *dice);
 void compare_accounts(struct dice *dice);
 void compare_saves(struct dice *dice);
+void compare_moves(struct dice *dice);
+void compare_saved_reports(struct dice *dice);
 void compare_articles(struct dice *dice);
 void compare_reports(struct dice *dice);
 
 /* In few rounds: every byte, and few cases each of large books and far numbers. */
 void compare_marks(struct dice *dice);
 void compare_report_bytes(struct dice *dice);
+void compare_saved_report_bytes(struct dice *dice);
 void compare_part_bytes(struct dice *dice);
 void compare_written_bytes(struct dice *dice);
 void compare_far_records(struct dice *dice);
@@ -61,15 +64,26 @@ void order_at_edge(struct dice *dice, struct shelf *shelf, const uint8_t *accoun
                    size_t copies, enum class class);
 
 /* compare_save.c: a save of any sound book, loaded again, gives it back where its keys
-   allow. */
+   allow; one of a book made by bookings is moved there and back as well, a large one now and
+   then. */
 void save_and_load(struct dice *dice, struct shelf *shelf, int by_bookings);
 
-/* compare_save.c: saves the book and loads it into rooms of the same size; gives the answer
-   of loading, and where that is 0 the same book, without its messages. */
+/* compare_save.c: saves the book and loads it into rooms of the same size, now and then from
+   the old form; gives the answer of loading, and where that is 0 the same book, from the old
+   form without its messages. */
 uint64_t load_again(struct dice *dice, struct shelf *shelf, struct shelf *loaded);
 
-/* compare_save.c: whether both have the same counts and the same used entries, but for what no
-   save has: message and expected date. */
+/* compare_save.c: whether both have the same counts and the same used entries. */
 int is_same_book(const struct shelf *shelf, const struct shelf *other);
+
+/* compare_moves.c: moves the save of a book that can be loaded to the old form and back, first
+   as it is, then with its messages forgotten. */
+void move_book(struct dice *dice, const struct shelf *shelf);
+
+/* compare_moves.c: gives bytes to load, to old to new and to new to old, whose answers have to
+   follow from that of load; gives that one. Counts the class and the two behind it, one for each
+   of the three. */
+uint64_t try_save(struct dice *dice, const uint8_t *saved, size_t length,
+                  const struct shelf *room, enum class class);
 
 #endif

@@ -24,6 +24,8 @@ static int can_answer(enum call call, uint64_t answer)
     case BOOK: return answer <= 21 || answer == 24 || answer == 25;
     case LINE: return answer == 0 || answer == 16 || answer == 20;
     case SAVE: return answer == 0 || answer == 20 || answer == 23;
+    case TO_NEW: return answer == 0 || answer == 22 || answer == 23;
+    case TO_OLD: return can_answer(TO_NEW, answer) || answer == 28;
     case ACCOUNT: return answer == 0 || answer == 20 || answer == 24;
     default: return answer == 0 || answer == 20 || answer == 22 || answer == 23;
     }
@@ -70,12 +72,15 @@ static void run_round(uint64_t seed, uint64_t round)
     compare_ceilings(&dice);
     compare_accounts(&dice);
     compare_saves(&dice);
+    compare_moves(&dice);
     compare_articles(&dice);
     compare_reports(&dice);
+    compare_saved_reports(&dice);
     if (round % FAR_EVERY != 0)
         return;
     compare_marks(&dice);
     compare_report_bytes(&dice);
+    compare_saved_report_bytes(&dice);
     compare_part_bytes(&dice);
     compare_written_bytes(&dice);
     compare_far_records(&dice);

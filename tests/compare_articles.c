@@ -247,18 +247,19 @@ static void name_first_of_key(struct dice *dice, const struct titles *titles, en
            deliver(dice, &shelf, line, titles->other, copies, 0), 17);
 }
 
-/* A save of few lines. */
-struct small_save { uint8_t bytes[SMALL_SAVE]; size_t lines, length; };
+/* A save of few lines, in either form. */
+struct small_save { uint8_t bytes[SMALL_SAVE]; enum saved_form form; size_t lines, length; };
 
 static void make_small_save(struct dice *dice, struct small_save *save, size_t slips)
 {
+    save->form = (enum saved_form)below(dice, SAVED_FORMS);
     save->lines = between(dice, 2, 8);
-    save->length = make_save(dice, save->bytes, save->lines, slips, 0);
+    save->length = make_save(dice, save->bytes, save->form, save->lines, slips, 0);
 }
 
 static uint8_t *line_in(struct small_save *save, size_t index)
 {
-    return save->bytes + index * IN_SAVED_LINE + IN_KIND_BYTE;
+    return saved_line(save->bytes, save->form, index) + IN_KIND_BYTE;
 }
 
 static uint64_t load_small(struct dice *dice, const struct small_save *save)

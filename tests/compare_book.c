@@ -290,8 +290,9 @@ static void try_all(struct dice *dice, const struct shelf *shelf)
     make_line_key(dice, 1, key);
     ask_line(key, &copy);
     both_save(&copy, out, chance(dice, 4) ? below(dice, 400) : 1000);
-    both_load(out, make_save(dice, out, between(dice, 1, 3), below(dice, 3), 0)
-                   - (size_t)chance(dice, 3), &copy);
+    length = make_save(dice, out, (enum saved_form)below(dice, SAVED_FORMS), between(dice, 1, 3),
+                       below(dice, 3), 0);
+    both_load(out, length - (size_t)chance(dice, 3), &copy);
 }
 
 /* Each number of each entry at its ends and past them; unused entries do not count. */

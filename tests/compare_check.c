@@ -40,6 +40,16 @@ static void damage_record(struct dice *dice, enum shape shape)
     }
 }
 
+/* Kinds that are cut are none, whatever stands behind them. */
+static void cut_kinds(void)
+{
+    static const char *const kinds[] = {"B101", "L101", "M101"};
+    for (size_t i = 0; i < sizeof kinds / sizeof kinds[0]; i++)
+        for (size_t length = 0; length < strlen(kinds[i]); length++)
+            for (size_t j = 0; j < EVERY_GUARD; j++)
+                insist(check((const uint8_t *)kinds[i], length) == 2, "a kind has four bytes");
+}
+
 /* Each fixed field filled with one byte, from its start or from its second byte on. */
 static void fill_fields(struct dice *dice, enum shape shape)
 {
@@ -361,6 +371,7 @@ void compare_checks(struct dice *dice)
     }
     for (size_t i = 0; i < 10; i++)
         damage_twice(dice);
+    cut_kinds();
     check_nonsense(dice);
     check_contents(dice);
     check_barred(dice);

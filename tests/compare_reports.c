@@ -1,12 +1,13 @@
 /* Cases for the last report on a line: what reports say and what is told of it afterwards; mark,
-   message and date that go together, and such as do not; and saves, which have the mark alone. */
+   message and date that go together, and such as do not; and books that were loaded, from the
+   new form with their reports and from the old form without. */
 #include "cases.h"
 
 #include <string.h>
 
 enum {
     NEW_LINE = 700, NEW_SLIP = 800, USED_LINES = 3, USED_SLIPS = 2, MARKS = IN_LET_GO + 2,
-    STATES = 9, SMALL_SAVE = WQ_SAVE_LENGTH(STATES + 2, STATES + 4), YEARS = 9,
+    SMALL_SAVE = WQ_SAVE_LENGTH(STATES + 2, STATES + 4), YEARS = 9,
     /* J and N, and each of them with each form of the date */
     LETTERS = 2, SAYINGS = LETTERS * FORMS
 };
@@ -210,66 +211,34 @@ static void judge_state(struct dice *dice, const struct report *state, int sound
     }
 }
 
-/* Numbers that may stand as a message: whether they go with mark none, and with J and N. */
-static const struct { size_t message; int with_none, with_report; enum class class; } numbers[] = {
-    {0, 0, 1, MESSAGE_IN_STATE}, {1, 0, 1, MESSAGE_IN_STATE}, {255, 0, 1, MESSAGE_IN_STATE},
-    {256, 0, 1, MESSAGE_IN_STATE}, {998, 0, 1, MESSAGE_IN_STATE}, {999, 0, 1, MESSAGE_IN_STATE},
-    {1000, 0, 0, NUMBER_IN_STATE}, {1001, 0, 0, NUMBER_IN_STATE}, {1023, 0, 0, NUMBER_IN_STATE},
-    {1024, 0, 0, NUMBER_IN_STATE}, {9999, 0, 0, NUMBER_IN_STATE}, {32767, 0, 0, NUMBER_IN_STATE},
-    {32768, 0, 0, NUMBER_IN_STATE}, {65279, 0, 0, NUMBER_IN_STATE},
-    {65533, 0, 0, NUMBER_IN_STATE}, {IN_UNKNOWN, 0, 1, UNKNOWN_IN_STATE},
-    {IN_NO_REPORT, 1, 0, NO_REPORT_IN_STATE}
-};
-
-/* Every mark, also one that is none, with every such number, the date being blank. The classes
-   of a number stand in the order of the marks. */
+/* Every mark, also one that is none, with every kind of number, the date being blank. The
+   classes stand in the order of the kinds, each with its marks. */
 static void judge_pairs(struct dice *dice)
 {
-    for (size_t i = 0; i < sizeof numbers / sizeof numbers[0]; i++)
+    for (size_t i = 0; i < number_count; i++)
         for (size_t mark = 0; mark < MARKS; mark++) {
-            struct report state = {(uint8_t)mark, numbers[i].message, {0}};
-            int sound = mark == IN_NO_MARK ? numbers[i].with_none
-                      : mark <= IN_LET_GO && numbers[i].with_report;
+            enum number_kind kind = number_samples[i].kind;
+            struct report state = {(uint8_t)mark, number_samples[i].message, {0}};
+            int sound = mark == IN_NO_MARK ? kind == NO_REPORT_KIND
+                      : mark <= IN_LET_GO && (kind == MESSAGE_KIND || kind == UNKNOWN_KIND);
             memcpy(state.date, BLANK_DATE, IN_DAY);
-            judge_state(dice, &state, sound, (enum class)(numbers[i].class + mark));
+            judge_state(dice, &state, sound,
+                        (enum class)(MESSAGE_IN_STATE + kind * MARKS + mark));
         }
 }
 
-/* Bytes that may stand as a date, by kind: the classes of a message, of an unknown one and of
-   none stand in this order. */
-enum kind { DAY_KIND, ZEROS_KIND, BLANKS_KIND, UNREAL_KIND, PARTLY_BLANK_KIND, BYTES_KIND };
-
-static const struct { const char *bytes; enum kind kind; } dates[] = {
-    {"20240229", DAY_KIND}, {"00010101", DAY_KIND}, {"99991231", DAY_KIND},
-    {"20000229", DAY_KIND}, {"20240430", DAY_KIND}, {"20231130", DAY_KIND},
-    {"00000000", ZEROS_KIND}, {BLANK_DATE, BLANKS_KIND},
-    {"20230229", UNREAL_KIND}, {"19000229", UNREAL_KIND}, {"00000101", UNREAL_KIND},
-    {"00000229", UNREAL_KIND}, {"20241301", UNREAL_KIND}, {"20240001", UNREAL_KIND},
-    {"20240431", UNREAL_KIND}, {"20240132", UNREAL_KIND}, {"20240100", UNREAL_KIND},
-    {"20240000", UNREAL_KIND}, {"00000001", UNREAL_KIND}, {"10000000", UNREAL_KIND},
-    {"99999999", UNREAL_KIND},
-    {"2024022 ", PARTLY_BLANK_KIND}, {" 0240229", PARTLY_BLANK_KIND},
-    {"2024 229", PARTLY_BLANK_KIND}, {"0000000 ", PARTLY_BLANK_KIND},
-    {" 0000000", PARTLY_BLANK_KIND}, {"       0", PARTLY_BLANK_KIND},
-    {"0       ", PARTLY_BLANK_KIND}, {"2024    ", PARTLY_BLANK_KIND},
-    {"20240A01", BYTES_KIND}, {"2024022/", BYTES_KIND}, {":0240229", BYTES_KIND},
-    {"\0\0\0\0\0\0\0\0", BYTES_KIND}, {"\xa0\xa0\xa0\xa0\xa0\xa0\xa0\xa0", BYTES_KIND},
-    {"\377\377\377\377\377\377\377\377", BYTES_KIND}, {"       \xa0", BYTES_KIND},
-    {"\2\0\2\4\0\2\2\x9", BYTES_KIND}, {"2024022\xb9", BYTES_KIND}, {"       !", BYTES_KIND},
-    {"0000000\0", BYTES_KIND}
-};
-
-/* A message takes the three forms, an unknown one and none take blanks alone. */
+/* A message takes the three forms, an unknown one and none take blanks alone. The classes of
+   each of them stand in the order of the kinds of dates. */
 static void judge_dates(struct dice *dice)
 {
-    for (size_t i = 0; i < sizeof dates / sizeof dates[0]; i++) {
+    for (size_t i = 0; i < date_count; i++) {
         uint8_t mark = any_mark(dice);
-        enum kind kind = dates[i].kind;
+        enum date_kind kind = date_samples[i].kind;
         struct report message = {mark, make_message(dice), {0}}, unknown = {mark, IN_UNKNOWN, {0}};
         struct report none = {IN_NO_MARK, IN_NO_REPORT, {0}};
-        memcpy(message.date, dates[i].bytes, IN_DAY);
-        memcpy(unknown.date, dates[i].bytes, IN_DAY);
-        memcpy(none.date, dates[i].bytes, IN_DAY);
+        memcpy(message.date, date_samples[i].bytes, IN_DAY);
+        memcpy(unknown.date, date_samples[i].bytes, IN_DAY);
+        memcpy(none.date, date_samples[i].bytes, IN_DAY);
         judge_state(dice, &message, kind <= BLANKS_KIND, (enum class)(DATE_OF_DAY + kind));
         judge_state(dice, &unknown, kind == BLANKS_KIND, (enum class)(UNKNOWN_WITH_DAY + kind));
         judge_state(dice, &none, kind == BLANKS_KIND, (enum class)(NO_REPORT_WITH_DAY + kind));
@@ -295,74 +264,71 @@ static void damage_states(struct dice *dice)
 
 /* --- Saves --- */
 
-/* A book with a line in each kind of state: none, and for J and N unknown and the three forms. */
+/* A book with a line in each kind of state. */
 static void stock_states(struct dice *dice, struct shelf *shelf)
 {
     make_shelf(dice, shelf, STATES + 2, STATES + 4);
     stock_unique(dice, shelf, STATES, USED_SLIPS);
-    for (size_t i = 0; i < STATES; i++) {
-        uint8_t *line = shelf->lines + i * IN_LINE, date[IN_DAY];
-        size_t kind = i / 2, none = i == STATES - 1, known = kind < FORMS;
-        uint8_t mark = none ? IN_NO_MARK : mark_in_turn(i);
-        make_expected(dice, known ? (enum form)kind : BLANKS, date);
-        put_state(line, mark, none ? IN_NO_REPORT : known ? make_message(dice) : IN_UNKNOWN,
-                  date);
-    }
+    for (size_t i = 0; i < STATES; i++)
+        make_state_of(dice, i, shelf->lines + i * IN_LINE);
 }
 
-/* Books that differ in messages and dates alone have the same save. */
-static size_t save_alike(struct dice *dice, struct shelf *shelf, uint8_t *saved)
+/* What a line has to tell after a load: all that it told before or, from the old form, that its
+   message is unknown or that no report came. */
+static struct said said_after(const uint8_t *line, enum saved_form form)
 {
-    static struct shelf other;
-    static uint8_t again[SMALL_SAVE];
-    size_t length = WQ_SAVE_LENGTH(shelf->used[0], shelf->used[1]);
-    expect(SAVED_WITHOUT_MESSAGES, 1, both_save(shelf, saved, length), 0);
-    copy_shelf(&other, shelf);
-    for (size_t i = 0; i < other.used[0]; i++) {
-        uint8_t *line = other.lines + i * IN_LINE;
-        make_state(dice, line, line[IN_MARK]);
-    }
-    expect(SAVED_WITHOUT_MESSAGES, 1, both_save(&other, again, length), 0);
-    insist(memcmp(saved, again, length) == 0, "a save has neither message nor date");
-    return length;
+    const struct said none = {IN_NO_REPORT, IN_AS_BLANKS, 0, 0, 0};
+    const struct said unknown = {IN_UNKNOWN, IN_AS_BLANKS, 0, 0, 0};
+    return form == NEW_FORM ? said_on(line) : line[IN_MARK] == IN_NO_MARK ? none : unknown;
 }
 
-/* A line that was loaded: what it tells, kept by a delivery, and a report on it. */
-static void report_on_loaded(struct dice *dice, struct shelf *loaded, size_t index)
+/* A line that was loaded: what it tells, kept by a delivery, and a report on it. The classes of
+   each stand in the order no report, unknown, and messages by the form of their date. */
+static void report_on_loaded(struct dice *dice, struct shelf *loaded, size_t index,
+                             const struct said *said)
 {
+    enum { WITHOUT, UNKNOWN, KNOWN };
     enum form form = (enum form)below(dice, FORMS);
-    const uint8_t *line = loaded->lines + index * IN_LINE;
-    int marked = line[IN_MARK] != IN_NO_MARK;
-    const struct said said = {marked ? IN_UNKNOWN : IN_NO_REPORT, IN_AS_BLANKS, 0, 0, 0};
     const struct report report = make_report_of(dice, any_mark(dice), make_message(dice), form);
     const struct said new_said = said_of(report.message, form, report.date);
+    size_t kind = said->message == IN_NO_REPORT ? WITHOUT : said->message == IN_UNKNOWN ? UNKNOWN
+                : KNOWN + (size_t)said->expected - IN_AS_DAY;
     uint8_t key[IN_TITLED];
-    memcpy(key, line, IN_TITLED);
-    expect_said(marked ? LOADED_UNKNOWN : LOADED_WITHOUT_REPORT, ask_line(key, loaded), loaded, key,
-                &said);
-    keep_report(dice, loaded, key, marked ? UNKNOWN_KEPT : NO_REPORT_KEPT, &said);
-    expect_said(marked ? REPORT_AFTER_UNKNOWN : REPORT_AFTER_LOAD,
+    memcpy(key, loaded->lines + index * IN_LINE, IN_TITLED);
+    expect_said((enum class)(LOADED_WITHOUT_REPORT + kind), ask_line(key, loaded), loaded, key,
+                said);
+    keep_report(dice, loaded, key, (enum class)(NO_REPORT_KEPT + kind), said);
+    expect_said((enum class)(REPORT_AFTER_LOAD + (kind < KNOWN ? kind : KNOWN)),
                 book_report(dice, loaded, key, &report), loaded, key, &new_said);
 }
 
-/* All states saved and loaded, into a room of any bytes and over a book whose lines have reports
-   of their own; saved again; and then booked on. */
+/* All states saved and loaded in each form, into a room of any bytes and over a book whose lines
+   have reports of their own; saved again; and then booked on. */
 static void save_states(struct dice *dice)
 {
     static struct shelf shelf, loaded;
     static uint8_t saved[SMALL_SAVE], again[SMALL_SAVE];
-    for (size_t i = 0; i < 4; i++) {
+    for (size_t i = 0; i < 2 * SAVED_FORMS; i++) {
+        enum saved_form form = (enum saved_form)(i % SAVED_FORMS);
         stock_states(dice, &shelf);
-        size_t length = save_alike(dice, &shelf, saved);
+        size_t new_length = save_length(NEW_FORM, STATES, USED_SLIPS);
+        insist(both_save(&shelf, again, new_length) == 0, "a book is saved in all states");
+        size_t length = write_save(&shelf, form, saved);
         make_shelf(dice, &loaded, STATES + 2, STATES + 4);
-        if (i % 2 == 0)
+        if (i < SAVED_FORMS)
             stock_unique(dice, &loaded, STATES + 2, USED_SLIPS);
-        expect(i % 2 ? LOADED_OVER_ANY_BYTES : LOADED_OVER_REPORTS, 1,
+        expect(i < SAVED_FORMS ? LOADED_OVER_REPORTS : LOADED_OVER_ANY_BYTES, 1,
                both_load(saved, length, &loaded), 0);
-        insist(is_same_book(&shelf, &loaded), "but for messages and dates the book is the same");
-        expect(SAVED_AGAIN, 1, both_save(&loaded, again, length), 0);
-        insist(memcmp(saved, again, length) == 0, "a loaded book has the save that it came from");
-        report_on_loaded(dice, &loaded, i % 2 ? STATES - 1 : below(dice, STATES - 1));
+        insist(is_same_book(&shelf, &loaded) == (form == NEW_FORM),
+               "a save of the new form keeps the reports, one of the old form does not");
+        expect((enum class)(SAVED_AGAIN_FROM_OLD + form), 1,
+               both_save(&loaded, again, new_length), 0);
+        insist((memcmp(again, saved, length) == 0) == (form == NEW_FORM),
+               "what was loaded from the new form has the save that it came from");
+        for (size_t j = 0; j < STATES; j++) {
+            const struct said said = said_after(shelf.lines + j * IN_LINE, form);
+            report_on_loaded(dice, &loaded, j, &said);
+        }
     }
 }
 

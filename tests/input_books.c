@@ -1,4 +1,4 @@
-/* Generated books: lent ones of all rooms, and saved ones. */
+/* Generated books of all rooms. */
 #include "inputs.h"
 
 #include <string.h>
@@ -67,7 +67,17 @@ void unique_slip_key(uint8_t *key, size_t number)
     unique_name(key + IN_SLIP_NUMBER, 'S', number);
 }
 
-static void unique_slip(struct dice *dice, uint8_t *slip, size_t number, size_t line)
+/* A line of any title and state, on which nothing has arrived. */
+void unique_line(struct dice *dice, uint8_t *line, size_t number)
+{
+    unique_line_key(line, number);
+    make_title(dice, line + IN_KEY);
+    put_little(line + IN_ORDERED, 2, between(dice, 1, IN_MOST_COPIES));
+    make_any_state(dice, line);
+    put_little(line + IN_ARRIVED, IN_ARRIVED_WIDTH, 0);
+}
+
+void unique_slip(struct dice *dice, uint8_t *slip, size_t number, size_t line)
 {
     unique_slip_key(slip, number);
     put_little(slip + IN_LINE_OF_SLIP, 2, line);
@@ -87,11 +97,8 @@ void stock_unique(struct dice *dice, struct shelf *shelf, size_t lines, size_t s
     }
     for (size_t i = 0; i < lines; i++) {
         uint8_t *line = shelf->lines + i * IN_LINE;
-        unique_line_key(line, i);
-        make_title(dice, line + IN_KEY);
-        put_little(line + IN_ORDERED, 2, between(dice, 1, 9999));
-        make_any_state(dice, line);
-        put_little(line + IN_ARRIVED, 4, sums[i]);
+        unique_line(dice, line, i);
+        put_little(line + IN_ARRIVED, IN_ARRIVED_WIDTH, sums[i]);
     }
     shelf->used[0] = lines;
     shelf->used[1] = slips;
@@ -219,28 +226,4 @@ void line_after(const uint8_t *record, const uint8_t *before, uint8_t *line)
     case 'L': add_copies(record, line); break;
     default: take_report(record, line); break;
     }
-}
-
-/* A valid save; copies 0 means any number on each slip. Slips go to the first lines. */
-size_t make_save(struct dice *dice, uint8_t *saved, size_t lines, size_t slips, size_t copies)
-{
-    uint8_t *to = saved;
-    for (size_t i = 0; i < lines; i++, to += IN_SAVED_LINE) {
-        to[0] = 1;
-        unique_line_key(to + 1, i);
-        make_title(dice, to + 1 + IN_KEY);
-        put_little(to + 1 + IN_ORDERED, 2, between(dice, 1, 9999));
-        to[1 + IN_MARK] = (uint8_t)below(dice, IN_LET_GO + 1);
-    }
-    for (size_t i = 0; i < slips; i++, to += IN_SAVED_SLIP) {
-        to[0] = 2;
-        unique_slip(dice, to + 1, i, copies ? 0 : below(dice, lines));
-        make_day(dice, to + 1 + IN_DATE);
-        if (copies)
-            put_little(to + 1 + IN_COPIES, 2, copies);
-    }
-    to[0] = 0;
-    put_little(to + 1, 2, lines);
-    put_little(to + 3, 2, slips);
-    return (size_t)(to + 5 - saved);
 }

@@ -42,6 +42,19 @@ void make_state(struct dice *dice, uint8_t *line, uint8_t mark)
     put_state(line, mark, message, date);
 }
 
+/* A state of this kind, of STATES: by J and by N with each form of the date and unknown, then
+   none. */
+void make_state_of(struct dice *dice, size_t kind, uint8_t *line)
+{
+    enum { MARKED = 2 };
+    uint8_t date[IN_DAY];
+    size_t form = kind / MARKED;
+    int none = kind == STATES - 1, known = form < FORMS;
+    make_expected(dice, known ? (enum form)form : BLANKS, date);
+    put_state(line, none ? IN_NO_MARK : kind % MARKED == 0 ? IN_HELD : IN_LET_GO,
+              none ? IN_NO_REPORT : known ? make_message(dice) : IN_UNKNOWN, date);
+}
+
 void make_any_state(struct dice *dice, uint8_t *line)
 {
     make_state(dice, line, (uint8_t)below(dice, IN_LET_GO + 1));
@@ -109,10 +122,33 @@ int is_same_said(const struct said *one, const struct said *other)
         && one->year == other->year && one->month == other->month && one->day == other->day;
 }
 
-/* What a load makes of the message and date behind a mark, whatever stood there. */
-int is_loaded_state(const uint8_t *line)
-{
-    size_t wanted = line[IN_MARK] == IN_NO_MARK ? IN_NO_REPORT : IN_UNKNOWN;
-    return get_little(line + IN_MESSAGE, 2) == wanted
-        && memcmp(line + IN_EXPECTED, BLANK_DATE, IN_DAY) == 0;
-}
+const struct number_sample number_samples[] = {
+    {0, MESSAGE_KIND}, {1, MESSAGE_KIND}, {255, MESSAGE_KIND}, {256, MESSAGE_KIND},
+    {998, MESSAGE_KIND}, {999, MESSAGE_KIND},
+    {1000, NUMBER_KIND}, {1001, NUMBER_KIND}, {1023, NUMBER_KIND},
+    {1024, NUMBER_KIND}, {9999, NUMBER_KIND}, {32767, NUMBER_KIND},
+    {32768, NUMBER_KIND}, {65279, NUMBER_KIND}, {65533, NUMBER_KIND},
+    {IN_UNKNOWN, UNKNOWN_KIND}, {IN_NO_REPORT, NO_REPORT_KIND}
+};
+const size_t number_count = sizeof number_samples / sizeof number_samples[0];
+
+const struct date_sample date_samples[] = {
+    {"20240229", DAY_KIND}, {"00010101", DAY_KIND}, {"99991231", DAY_KIND},
+    {"20000229", DAY_KIND}, {"20240430", DAY_KIND}, {"20231130", DAY_KIND},
+    {"00000000", ZEROS_KIND}, {BLANK_DATE, BLANKS_KIND},
+    {"20230229", UNREAL_KIND}, {"19000229", UNREAL_KIND}, {"00000101", UNREAL_KIND},
+    {"00000229", UNREAL_KIND}, {"20241301", UNREAL_KIND}, {"20240001", UNREAL_KIND},
+    {"20240431", UNREAL_KIND}, {"20240132", UNREAL_KIND}, {"20240100", UNREAL_KIND},
+    {"20240000", UNREAL_KIND}, {"00000001", UNREAL_KIND}, {"10000000", UNREAL_KIND},
+    {"99999999", UNREAL_KIND},
+    {"2024022 ", PARTLY_BLANK_KIND}, {" 0240229", PARTLY_BLANK_KIND},
+    {"2024 229", PARTLY_BLANK_KIND}, {"0000000 ", PARTLY_BLANK_KIND},
+    {" 0000000", PARTLY_BLANK_KIND}, {"       0", PARTLY_BLANK_KIND},
+    {"0       ", PARTLY_BLANK_KIND}, {"2024    ", PARTLY_BLANK_KIND},
+    {"20240A01", BYTES_KIND}, {"2024022/", BYTES_KIND}, {":0240229", BYTES_KIND},
+    {"\0\0\0\0\0\0\0\0", BYTES_KIND}, {"\xa0\xa0\xa0\xa0\xa0\xa0\xa0\xa0", BYTES_KIND},
+    {"\377\377\377\377\377\377\377\377", BYTES_KIND}, {"       \xa0", BYTES_KIND},
+    {"\2\0\2\4\0\2\2\x9", BYTES_KIND}, {"2024022\xb9", BYTES_KIND}, {"       !", BYTES_KIND},
+    {"0000000\0", BYTES_KIND}
+};
+const size_t date_count = sizeof date_samples / sizeof date_samples[0];

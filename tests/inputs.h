@@ -11,7 +11,8 @@ enum {
     /* a title is an article with its qualifier; it stands behind the key of a line, and
        behind the reference of a record */
     IN_ARTICLE = 13, IN_TITLE = IN_ARTICLE + IN_QUALIFIER, IN_TITLED = IN_KEY + IN_TITLE,
-    IN_SAVED_LINE = 53, IN_SAVED_SLIP = 51, IN_SAVED_END = 5,
+    IN_SAVED_OLD_LINE = 53, IN_SAVED_LINE = 63, IN_SAVED_SLIP = 51, IN_SAVED_END = 5,
+    IN_KIND_END = 0, IN_KIND_OLD_LINE = 1, IN_KIND_SLIP = 2, IN_KIND_LINE = 3,
     IN_SCHOOL = 16, IN_CEILING = 12, IN_MOST_SCHOOLS = 64,
     /* digits of a message, and where month and day stand in a date */
     IN_MESSAGE_DIGITS = 3, IN_MONTH = 4, IN_DAY_OF_MONTH = 6,
@@ -20,8 +21,9 @@ enum {
     IN_ORDERED = 49, IN_MARK = 51, IN_MESSAGE = 52, IN_EXPECTED = 54, IN_ARRIVED = 62,
     IN_ARRIVED_WIDTH = IN_LINE - IN_ARRIVED,
     IN_LINE_OF_SLIP = 46, IN_COPIES = 48,
-    /* what a save has of a line, and what a line has of its last report */
-    IN_BODY = IN_MESSAGE, IN_STATE = IN_ARRIVED - IN_MARK,
+    /* what a save of the old form and one of the new have of a line, and what a line has of
+       its last report */
+    IN_OLD_BODY = IN_MESSAGE, IN_BODY = IN_ARRIVED, IN_STATE = IN_ARRIVED - IN_MARK,
     IN_DATE = 24, IN_DATE_TO_POSITION = 22, IN_SLIP_NUMBER = 32, IN_DELIVERY_DATE = 28,
     IN_KIND_BYTE = 1,
     IN_SAVED_LINES_COUNT = 4, IN_SAVED_SLIPS_COUNT = 2,
@@ -182,9 +184,21 @@ int is_sound_state(const uint8_t *line);
 struct said said_of(size_t message, enum form form, const uint8_t *date);
 struct said said_on(const uint8_t *line);
 int is_same_said(const struct said *one, const struct said *other);
-int is_loaded_state(const uint8_t *line);
 
-/* Books and saves; the copies of a line, and a line as a booking has to leave it. */
+/* Bytes that may stand as a message or as a date on a line, by kind. */
+enum number_kind { MESSAGE_KIND, NUMBER_KIND, UNKNOWN_KIND, NO_REPORT_KIND };
+enum date_kind { DAY_KIND, ZEROS_KIND, BLANKS_KIND, UNREAL_KIND, PARTLY_BLANK_KIND, BYTES_KIND };
+struct number_sample { size_t message; enum number_kind kind; };
+struct date_sample { const char *bytes; enum date_kind kind; };
+extern const struct number_sample number_samples[];
+extern const struct date_sample date_samples[];
+extern const size_t number_count, date_count;
+
+/* A line in each kind of state: by J and by N with a day, zeros, blanks and unknown; and none. */
+enum { STATES = 9 };
+void make_state_of(struct dice *dice, size_t kind, uint8_t *line);
+
+/* Books; the copies of a line, and a line as a booking has to leave it. */
 struct figures { uint64_t ordered, filled, still_open, let_go, extra; };
 void make_shelf(struct dice *dice, struct shelf *shelf, size_t line_room, size_t slip_room);
 void stock_shelf(struct dice *dice, struct shelf *shelf, size_t lines, size_t slips,
@@ -201,7 +215,27 @@ int names_title(const uint8_t *record, const uint8_t *line);
 void line_after(const uint8_t *record, const uint8_t *before, uint8_t *line);
 void unique_line_key(uint8_t *key, size_t number);
 void unique_slip_key(uint8_t *key, size_t number);
-size_t make_save(struct dice *dice, uint8_t *saved, size_t lines, size_t slips,
-                 size_t copies);
+void unique_line(struct dice *dice, uint8_t *line, size_t number);
+void unique_slip(struct dice *dice, uint8_t *slip, size_t number, size_t line);
+
+/* Saves in both forms: the width of a line's entry, the length of a save, where its entries
+   begin, and how many lines it states; valid saves, and the save of a book; the messages in one
+   of the new form, whose lines are told by index. */
+enum saved_form { OLD_FORM, NEW_FORM, SAVED_FORMS };
+size_t saved_width(enum saved_form form);
+size_t save_length(enum saved_form form, size_t lines, size_t slips);
+uint8_t *saved_line(uint8_t *saved, enum saved_form form, size_t index);
+uint8_t *saved_slip(uint8_t *saved, enum saved_form form, size_t lines, size_t index);
+size_t lines_stated(const uint8_t *saved, size_t length);
+int is_in_form(const uint8_t *saved, enum saved_form form);
+size_t make_save(struct dice *dice, uint8_t *saved, enum saved_form form, size_t lines,
+                 size_t slips, size_t copies);
+size_t write_save(const struct shelf *shelf, enum saved_form form, uint8_t *saved);
+size_t write_moved(const uint8_t *saved, size_t length, enum saved_form to, uint8_t *moved);
+int has_number(const uint8_t *saved, size_t lines);
+void forget_numbers(uint8_t *saved, size_t lines);
+void put_number(struct dice *dice, uint8_t *saved, size_t index, size_t message);
+int is_loaded(const uint8_t *saved, size_t length, const struct shelf *before,
+              const struct shelf *after);
 
 #endif

@@ -17,7 +17,7 @@
 #endif
 
 enum {
-    MOST_PIECES = 8, SIDES = 2, GUARD = 72, SLACK = 16, DESK_WORDS = 1 << 19, MOST_SHOWN = 4096,
+    MOST_PIECES = 8, SIDES = 2, GUARD = 72, SLACK = 16, DESK_WORDS = 1 << 20, MOST_SHOWN = 4096,
     /* the values of a call: answer and place, then what it gives; of a line its figures, what
        its last report said, and whether the articles agreed */
     FIGURES_FROM = 2,
@@ -28,7 +28,8 @@ enum {
 struct tally tally;
 
 const char *const call_names[CALL_COUNT] = {
-    "check", "write", "parts", "w-parts", "book", "line", "save", "load", "account"
+    "check", "write", "parts", "w-parts", "book", "line", "save", "load", "to-new", "to-old",
+    "account"
 };
 
 /* One lent piece: the bytes before the call, and where its copy stands on each side. */
@@ -51,9 +52,10 @@ static size_t desk_words[SIDES][DESK_WORDS];
 
 /* What stands between the pieces: a line, a slip and schools that would count, fields,
    digits, the rest of a kind that was cut, the mark of a bundle and a loop, table entries with
-   ID 1019. It changes from call to call and differs between the sides, so that reading it
+   ID 1019; lines and a slip of a save with the end behind them, the rest of a line, and ends. It
+   changes from call to call and differs between the sides, so that reading it
    shows. */
-static const char guards[][GUARD + SLACK + 1] = {
+static const char guards[EVERY_GUARD][GUARD + SLACK + 1] = {
     "43210     VD24000     VDA-17      9783442756841EN\1\0\0\377\377        \0\0\0\0"
     "**********************",
     "24000     VD43210     VD2024022670012345  0001\0\0\1\0" "000000000000000000000000000000",
@@ -71,13 +73,21 @@ static const char guards[][GUARD + SLACK + 1] = {
     "\373\3\0\0\0\0\0\0" "\373\3\0\0\0\0\0\0" "\373\3\0\0\0\0\0\0"
     "\373\3\0\0\0\0\0\0" "\373\3\0\0\0\0\0\0" "\373\3\0\0\0\0\0\0"
     "\373\3\0\0\0\0\0\0" "\373\3\0\0\0\0\0\0",
+    "\3" "43210     VD24000     VDA-18      9783442756841EN\1\0\1\17\0" "20240315"
+    "\0\1\0\0\0" "\0\1\0\0\0",
+    "\1" "43210     VD24000     VDA-18      9783442756841EN\1\0\1" "\0\1\0\0\0"
+    "\0\1\0\0\0" "\0\1\0\0\0" "\0\1\0\0\0" "\0\1\0\0\0",
+    "\2" "24000     VD43210     VD2024022670012345  0001\0\0\1\0" "\0\1\0\1\0"
+    "\0\1\0\0\0" "\0\1\0\0\0",
+    "\377\377        \0\1\0\0\0" "\376\377        \0\1\0\0\0" "\0\1\0\0\0",
+    "        \0\1\0\0\0" "        \0\2\0\1\0" "\0\1\0\0\0",
+    "\0\1\0\0\0" "\0\1\0\0\0" "\0\2\0\1\0" "\0\1\0\1\0" "\0\2\0\0\0",
     "\0"
 };
 
 static const char *guard_of(size_t side)
 {
-    enum { GUARDS = sizeof guards / sizeof guards[0] };
-    return guards[(side == 0 ? tally.call : tally.call / GUARDS) % GUARDS];
+    return guards[(side == 0 ? tally.call : tally.call / EVERY_GUARD) % EVERY_GUARD];
 }
 
 static uint8_t *desk(size_t side)
@@ -206,18 +216,28 @@ static struct outcome run_parts_call(const struct lending *lending, size_t side)
     return outcome;
 }
 
+static struct outcome saved_of(wq_saved saved)
+{
+    struct outcome outcome = {{saved.answer, saved.place, saved.length}};
+    return outcome;
+}
+
 static struct outcome run_save_call(const struct lending *lending, size_t side)
 {
-    if (lending->call == SAVE) {
-        wq_saved saved = side == 0 ? ref_save(BYTES(0), BYTES(1), USED(2), BYTES(3))
-                                   : wq_save(BYTES(0), BYTES(1), USED(2), BYTES(3));
-        struct outcome outcome = {{saved.answer, saved.place, saved.length}};
-        return outcome;
-    }
+    if (lending->call == SAVE)
+        return saved_of(side == 0 ? ref_save(BYTES(0), BYTES(1), USED(2), BYTES(3))
+                                  : wq_save(BYTES(0), BYTES(1), USED(2), BYTES(3)));
     wq_loaded loaded = side == 0 ? ref_load(BYTES(0), BYTES(1), BYTES(2), USED(3))
                                  : wq_load(BYTES(0), BYTES(1), BYTES(2), USED(3));
     struct outcome outcome = {{loaded.answer, loaded.place}};
     return outcome;
+}
+
+static struct outcome run_move_call(const struct lending *lending, size_t side)
+{
+    if (lending->call == TO_NEW)
+        return saved_of(side == 0 ? ref_to_new(BYTES(0), BYTES(1)) : wq_to_new(BYTES(0), BYTES(1)));
+    return saved_of(side == 0 ? ref_to_old(BYTES(0), BYTES(1)) : wq_to_old(BYTES(0), BYTES(1)));
 }
 
 static struct outcome run_account_call(const struct lending *lending, size_t side)
@@ -243,6 +263,8 @@ static struct outcome run_call(const struct lending *lending, size_t side)
                       USED(7)));
     case SAVE: case LOAD:
         return run_save_call(lending, side);
+    case TO_NEW: case TO_OLD:
+        return run_move_call(lending, side);
     case ACCOUNT:
         return run_account_call(lending, side);
     case PARTS: case WRITE_PARTS:
@@ -562,41 +584,33 @@ uint64_t both_line(const uint8_t *const parts[KEY_PARTS], const size_t lengths[K
     return answer;
 }
 
-/* Whether a save has each line as it stands in the book, up to its mark. */
-static int is_save_of(const struct shelf *shelf, const uint8_t *saved)
+/* What was written to the output are these bytes, its length is told, and all behind them is as
+   it was. */
+static void insist_written(const struct lending *lending, size_t piece, const uint8_t *wanted,
+                           size_t length)
 {
-    for (size_t i = 0; i < shelf->used[0]; i++, saved += IN_SAVED_LINE)
-        if (saved[0] != 1
-            || memcmp(saved + IN_KIND_BYTE, shelf->lines + i * IN_LINE, IN_BODY) != 0)
-            return 0;
-    return 1;
+    const struct piece *out = &lending->pieces[piece];
+    const uint8_t *after = copy_of(lending, 0, piece), *before = out->bytes;
+    insist(tally.value == length && length <= out->length, "the length is that of the save");
+    insist(memcmp(after, wanted, length) == 0, "a save has its entries in the form that it has to");
+    insist(memcmp(after + length, before + length, out->length - length) == 0,
+           "nothing changes behind what is written");
 }
 
 uint64_t both_save(struct shelf *shelf, uint8_t *out, size_t out_length)
 {
+    enum { ONLY_READ = 3 };
+    static uint8_t wanted[SAVE_ROOM];
     struct lending lending = lend(SAVE);
     memset(out, (int)(tally.call * 37 % 256), out_length);
     add_shelf(&lending, shelf);
     add_piece(&lending, "out", out, out_length, 1);
     uint64_t answer = run_both(&lending);
-    memcpy(out, copy_of(&lending, 0, 3), out_length);
-    insist(answer != 0 || is_save_of(shelf, out), "a save has the first 52 bytes of each line");
+    insist(are_unchanged(&lending, 0, ONLY_READ), "saving leaves the book as it was");
+    if (answer == 0)
+        insist_written(&lending, ONLY_READ, wanted, write_save(shelf, NEW_FORM, wanted));
+    memcpy(out, copy_of(&lending, 0, ONLY_READ), out_length);
     return answer;
-}
-
-/* Whether each line that was loaded has the bytes of its save, and no message, and all behind
-   the lines and slips in use is as it was. */
-static int is_loaded(const uint8_t *saved, const struct shelf *before, const struct shelf *after)
-{
-    size_t lines = after->used[0] * IN_LINE, slips = after->used[1] * IN_SLIP;
-    for (size_t i = 0; i < after->used[0]; i++) {
-        const uint8_t *line = after->lines + i * IN_LINE;
-        if (memcmp(line, saved + i * IN_SAVED_LINE + IN_KIND_BYTE, IN_BODY) != 0
-            || !is_loaded_state(line))
-            return 0;
-    }
-    return memcmp(after->lines + lines, before->lines + lines, before->lines_length - lines) == 0
-        && memcmp(after->slips + slips, before->slips + slips, before->slips_length - slips) == 0;
 }
 
 uint64_t both_load(const uint8_t *saved, size_t length, struct shelf *shelf)
@@ -606,11 +620,52 @@ uint64_t both_load(const uint8_t *saved, size_t length, struct shelf *shelf)
     add_piece(&lending, "saved", saved, length, 1);
     add_shelf(&lending, shelf);
     uint64_t answer = run_both(&lending);
+    insist(are_unchanged(&lending, 0, 1), "loading leaves the saved bytes as they were");
     if (answer != 0)
         return answer;
     before = *shelf;
     take_back(&lending, 1, shelf);
-    insist(is_loaded(saved, &before, shelf), "a load fills its entries, without messages");
+    insist(is_loaded(saved, length, &before, shelf),
+           "a load fills the entries that its save states, and no others");
+    return answer;
+}
+
+/* What follows from an answer other than 22: the save is of the move's own form; 28 tells that a
+   message would be lost, and else none would; and 23 that the output is too small. */
+static void insist_moved(const struct lending *lending, enum saved_form to, uint64_t answer)
+{
+    static uint8_t wanted[SAVE_ROOM];
+    const uint8_t *saved = lending->pieces[0].bytes;
+    size_t length = lending->pieces[0].length;
+    enum saved_form from = to == NEW_FORM ? OLD_FORM : NEW_FORM;
+    insist(length >= IN_SAVED_END, "a save has an end");
+    size_t lines = lines_stated(saved, length);
+    if (length + lines * (IN_SAVED_LINE - IN_SAVED_OLD_LINE) > sizeof wanted)
+        abort();
+    insist(is_in_form(saved, from), "a move takes its own form alone");
+    insist((answer == 28) == (to == OLD_FORM && has_number(saved, lines)),
+           "28 is told just where a line has a message");
+    if (answer == 28)
+        return;
+    size_t moved = write_moved(saved, length, to, wanted);
+    insist((answer == 23) == (lending->pieces[1].length < moved),
+           "23 is told just where the output is too small");
+    if (answer == 0)
+        insist_written(lending, 1, wanted, moved);
+}
+
+uint64_t both_move(enum saved_form to, const uint8_t *saved, size_t length, uint8_t *out,
+                   size_t out_length)
+{
+    struct lending lending = lend(to == NEW_FORM ? TO_NEW : TO_OLD);
+    memset(out, (int)(tally.call * 37 % 256), out_length);
+    add_piece(&lending, "saved", saved, length, 1);
+    add_piece(&lending, "out", out, out_length, 1);
+    uint64_t answer = run_both(&lending);
+    insist(are_unchanged(&lending, 0, 1), "a move leaves the saved bytes as they were");
+    if (answer != 22)
+        insist_moved(&lending, to, answer);
+    memcpy(out, copy_of(&lending, 0, 1), out_length);
     return answer;
 }
 

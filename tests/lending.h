@@ -5,9 +5,13 @@
 
 #include "inputs.h"
 
-enum call { CHECK, WRITE, PARTS, WRITE_PARTS, BOOK, LINE, SAVE, LOAD, ACCOUNT, CALL_COUNT };
+enum call {
+    CHECK, WRITE, PARTS, WRITE_PARTS, BOOK, LINE, SAVE, LOAD, TO_NEW, TO_OLD, ACCOUNT, CALL_COUNT
+};
 
-enum { ANSWER_COUNT = 28, KEY_PARTS = 5, MOST_TABLE = 66000 };
+/* So many calls in a row meet every guard there is, also in every second or third of them: it is
+   a prime. */
+enum { ANSWER_COUNT = 29, KEY_PARTS = 5, MOST_TABLE = 66000, EVERY_GUARD = 19 };
 
 /* The calls so far, how often each answer of each call was seen, where we are (the
    round's seed and the number of the call in it), and what the last call gave: the place,
@@ -36,6 +40,8 @@ uint64_t both_line(const uint8_t *const parts[KEY_PARTS], const size_t lengths[K
                    struct shelf *shelf);
 uint64_t both_save(struct shelf *shelf, uint8_t *out, size_t out_length);
 uint64_t both_load(const uint8_t *saved, size_t length, struct shelf *shelf);
+uint64_t both_move(enum saved_form to, const uint8_t *saved, size_t length, uint8_t *out,
+                   size_t out_length);
 uint64_t both_account(const wq_school *schools, size_t count, const uint8_t *address,
                       size_t address_length, const uint8_t *qualifier,
                       size_t qualifier_length);
@@ -43,7 +49,9 @@ uint64_t both_account(const wq_school *schools, size_t count, const uint8_t *add
 /* Ends the program with 1 where a fact about the answers does not hold. */
 void insist(int holds, const char *fact);
 
-/* samples.c: the documents' samples, with the expected values, for both. */
+/* samples.c: the documents' samples, with the expected values, for both; samples_saves.c: those of
+   saves, which are among them. */
 void run_samples(void);
+void run_save_samples(void);
 
 #endif

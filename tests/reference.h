@@ -43,6 +43,10 @@ wq_loaded ref_load(const uint8_t *saved, size_t saved_length,
                    uint8_t *lines, size_t lines_length,
                    uint8_t *slips, size_t slips_length, size_t *used);
 
+wq_saved ref_to_new(const uint8_t *saved, size_t saved_length, uint8_t *out, size_t out_length);
+
+wq_saved ref_to_old(const uint8_t *saved, size_t saved_length, uint8_t *out, size_t out_length);
+
 wq_account_told ref_account(const wq_school *schools, size_t count,
                             const uint8_t *address, size_t address_length,
                             const uint8_t *qualifier, size_t qualifier_length);

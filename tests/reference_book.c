@@ -24,7 +24,7 @@ int ref_rooms_fit(size_t lines_length, size_t slips_length)
 
 /* "No report yet" goes with mark none and no other, an unknown message with J or N, and eight
    blanks with either; a message has an expected date in one of its three forms. */
-static int is_sound_report(const uint8_t *line)
+int ref_is_sound_report(const uint8_t *line)
 {
     const uint8_t mark = line[LINE_MARK_PLACE], *expected = line + LINE_EXPECTED_PLACE;
     size_t message = get_le16(line + LINE_MESSAGE_PLACE);
@@ -40,7 +40,7 @@ static int is_sound_report(const uint8_t *line)
 static int is_sound_line(const uint8_t *line)
 {
     size_t ordered = get_le16(line + LINE_ORDERED_PLACE);
-    return ordered >= 1 && ordered <= MOST_COPIES && is_sound_report(line)
+    return ordered >= 1 && ordered <= MOST_COPIES && ref_is_sound_report(line)
         && get_le32(line + LINE_ARRIVED_PLACE) <= MOST_ARRIVED;
 }
 

@@ -58,16 +58,18 @@ enum {
     SCHOOL_WIDTH = SCHOOL_CEILING_PLACE + CEILING_WIDTH, MOST_SCHOOLS = 64
 };
 
-/* The lent book and the saved book. A line's body is what a save holds of it. */
+/* The lent book and the saved book. A body is what a save of the old or of the new form holds
+   of a line. */
 enum {
     LINE_KEY_WIDTH = 2 * PARTY_WIDTH + REFERENCE_WIDTH,
     LINE_TITLE_PLACE = LINE_KEY_WIDTH,
     LINE_ORDERED_PLACE = LINE_TITLE_PLACE + TITLE_WIDTH,
     LINE_MARK_PLACE = LINE_ORDERED_PLACE + 2,
-    LINE_BODY_WIDTH = LINE_MARK_PLACE + 1,
-    LINE_MESSAGE_PLACE = LINE_BODY_WIDTH,
+    OLD_BODY_WIDTH = LINE_MARK_PLACE + 1,
+    LINE_MESSAGE_PLACE = OLD_BODY_WIDTH,
     LINE_EXPECTED_PLACE = LINE_MESSAGE_PLACE + 2,
-    LINE_ARRIVED_PLACE = LINE_EXPECTED_PLACE + DATE_WIDTH,
+    NEW_BODY_WIDTH = LINE_EXPECTED_PLACE + DATE_WIDTH,
+    LINE_ARRIVED_PLACE = NEW_BODY_WIDTH,
     LINE_WIDTH = LINE_ARRIVED_PLACE + 4,
     SLIP_KEY_WIDTH = 2 * PARTY_WIDTH + DATE_WIDTH + SLIP_NUMBER_WIDTH + POSITION_WIDTH,
     SLIP_LINE_PLACE = SLIP_KEY_WIDTH,
@@ -77,8 +79,7 @@ enum {
     MOST_COPIES = 9999, MOST_ARRIVED = 9999999,
     MARK_NONE = 0, MARK_HELD = 1, MARK_LET_GO = 2,
     MOST_MESSAGE = 999, MESSAGE_UNKNOWN = 65534, NO_REPORT = 65535,
-    SAVED_END = 0, SAVED_LINE = 1, SAVED_SLIP = 2,
-    SAVED_LINE_WIDTH = 1 + LINE_BODY_WIDTH,
+    SAVED_END = 0, SAVED_OLD_LINE = 1, SAVED_SLIP = 2, SAVED_NEW_LINE = 3,
     SAVED_SLIP_WIDTH = 1 + SLIP_WIDTH,
     SAVED_END_WIDTH = 1 + 2 + 2
 };
@@ -91,7 +92,8 @@ enum answer {
     REFERENCE_BLANK = 12, NOTHING_TO_BOOK = 13, LINE_EXISTS = 14, LINES_FULL = 15,
     NO_SUCH_LINE = 16, SLIP_REPEATED = 17, SLIP_DIFFERS = 18, SLIPS_FULL = 19,
     BOOK_UNSOUND = 20, ARRIVED_OVER_LIMIT = 21, SAVE_INVALID = 22, ROOM_TOO_SMALL = 23,
-    NOT_ON_ROSTER = 24, CEILING_PASSED = 25, PARTS_BROKEN = 26, TOO_MANY_PARTS = 27
+    NOT_ON_ROSTER = 24, CEILING_PASSED = 25, PARTS_BROKEN = 26, TOO_MANY_PARTS = 27,
+    MESSAGE_LOST = 28
 };
 
 enum record_kind { NO_KIND, ORDER, DELIVERY, REPORT };
@@ -166,6 +168,7 @@ int ref_rooms_fit(size_t lines_length, size_t slips_length);
 int ref_open_book(const uint8_t *lines, size_t lines_length,
                   const uint8_t *slips, size_t slips_length,
                   const size_t *used, struct book *book);
+int ref_is_sound_report(const uint8_t *line);
 
 static inline size_t get_le16(const uint8_t *bytes)
 {

@@ -1,7 +1,7 @@
 /* Document 01's samples with the values it states, document 02's clerk and his roster, titles
    with its typographic marks, a supplier that answers with its own number, teachers who ask
-   why a title is late, saves of both kinds of lines, and the bundles of documents 001 and 004,
-   held against both implementations. */
+   why a title is late, and the bundles of documents 001 and 004, held against both
+   implementations. */
 #include "lending.h"
 #include "reference.h"
 
@@ -43,16 +43,14 @@ struct side {
     wq_told (*line)(const uint8_t *, size_t, const uint8_t *, size_t, const uint8_t *, size_t,
                     const uint8_t *, size_t, const uint8_t *, size_t, const uint8_t *, size_t,
                     const uint8_t *, size_t, const size_t *);
-    wq_loaded (*load)(const uint8_t *, size_t, uint8_t *, size_t, uint8_t *, size_t, size_t *);
     wq_account_told (*account)(const wq_school *, size_t, const uint8_t *, size_t,
                                const uint8_t *, size_t);
 };
 
 static const struct side sides[] = {
-    {"reference", ref_check, ref_write, ref_parts, ref_write_parts, ref_book, ref_line, ref_load,
+    {"reference", ref_check, ref_write, ref_parts, ref_write_parts, ref_book, ref_line,
      ref_account},
-    {"library", wq_check, wq_write, wq_parts, wq_write_parts, wq_book, wq_line, wq_load,
-     wq_account}
+    {"library", wq_check, wq_write, wq_parts, wq_write_parts, wq_book, wq_line, wq_account}
 };
 
 /* Reading: the record, its answer and place, and the number of fields. */
@@ -212,28 +210,6 @@ roster_samples[] = {
     {X END, 2, {{OURS, 9}, {OURS, 10}}, 25},
     {X END, 2, {{OTHER, 500}, {OTHER, 500}}, 24},
     {X END, 2, {{OTHER, 9}, {OURS, 10}}, 0}
-};
-
-/* Two saved lines, one with a report and one without, by kind 1 and by kind 3, which document 02
-   brings later; both as a load leaves them; and saves with the answer to them. */
-#define ORDERED(reference) OURS "24000     VD" reference ISBN "\12\0"
-#define REPORTED ORDERED("A-17      ") "\1"
-#define UNREPORTED ORDERED("A-18      ") "\0"
-#define REPORTED_3 "\3" REPORTED "\17\0" "20240315"
-#define UNREPORTED_3 "\3" UNREPORTED "\377\377" BLANK_DATE
-#define REPORTED_1 "\1" REPORTED
-#define UNREPORTED_1 "\1" UNREPORTED
-#define ENDED(lines) "\0" lines "\0\0\0"
-static const char loaded_lines[] = REPORTED "\376\377" BLANK_DATE "\0\0\0\0"
-    UNREPORTED "\377\377" BLANK_DATE "\0\0\0\0";
-#define SAVED(bytes) bytes, sizeof bytes - 1
-static const struct { const char *bytes; size_t length; uint64_t answer; } load_samples[] = {
-    {SAVED(REPORTED_1 UNREPORTED_1 ENDED("\2")), 0},
-    {SAVED(REPORTED_3 UNREPORTED_3 ENDED("\2")), 22},
-    {SAVED(REPORTED_3 ENDED("\1")), 22},
-    {SAVED(UNREPORTED_3 ENDED("\1")), 22},
-    {SAVED(REPORTED_1 UNREPORTED_3 ENDED("\2")), 22},
-    {SAVED(REPORTED_3 UNREPORTED_1 ENDED("\2")), 22}
 };
 
 static void differs(const struct side *side, const char *record, uint64_t answer, uint64_t place)
@@ -433,27 +409,6 @@ static void run_roster_samples(const struct side *side)
     }
 }
 
-/* Each save into the room of two lines; one that is refused leaves it as it was. */
-static void run_load_samples(const struct side *side)
-{
-    insist(sizeof loaded_lines == 2 * IN_LINE + 1, "a lent line has 66 bytes");
-    for (size_t i = 0; i < sizeof load_samples / sizeof load_samples[0]; i++) {
-        uint8_t lines[2 * IN_LINE] = {0}, slips[IN_SLIP] = {0}, untouched[2 * IN_LINE] = {0};
-        size_t used[2] = {0, 0};
-        int valid = load_samples[i].answer == 0;
-        const void *wanted = valid ? (const void *)loaded_lines : untouched;
-        wq_loaded loaded = side->load((const uint8_t *)load_samples[i].bytes,
-                                      load_samples[i].length, lines, sizeof lines, slips,
-                                      sizeof slips, used);
-        tally.calls++;
-        insist(loaded.answer == load_samples[i].answer && loaded.place == 0,
-               "a save of kind 1 is loaded, one with lines of kind 3 is not");
-        insist(used[0] == (valid ? 2 : 0) && used[1] == 0
-               && memcmp(lines, wanted, sizeof lines) == 0,
-               "a load makes the message of a line with a mark unknown");
-    }
-}
-
 void run_samples(void)
 {
     insist(strlen(X END) == 72 && strlen(Y(SLIP, "0001", "0004")) == 113
@@ -469,6 +424,6 @@ void run_samples(void)
         run_bookings(&sides[i], own_number_sample,
                      sizeof own_number_sample / sizeof own_number_sample[0]);
         run_roster_samples(&sides[i]);
-        run_load_samples(&sides[i]);
     }
+    run_save_samples();
 }
