@@ -422,7 +422,7 @@ wq_written wq_write_parts(const uint8_t *fixed, size_t fixed_length, const size_
  *   agreed      1 where the record's article and its qualifier are both those that stand in
  *               the line, byte for byte, else 0; for an order 1
  *   message     the last report's message number, 0 to 999; WQ_NO_REPORT where none came,
- *               WQ_MESSAGE_UNKNOWN where the book was loaded since it came. The 0 of a
+ *               WQ_MESSAGE_UNKNOWN where an old save was loaded since it came. The 0 of a
  *               refusal is not message 000: look at `answer` first
  *   expected    which form its expected date has: WQ_EXPECTED_DAY, _ZEROS or _BLANKS; _BLANKS
  *               also where `message` is WQ_NO_REPORT or WQ_MESSAGE_UNKNOWN: look at it first
