@@ -145,13 +145,13 @@ static int sync_directory(const struct own_files *files, int directory)
     return 0;
 }
 
-/* A new file takes a name that nobody has. Where the file system cannot do that in one step, the
-   file has both names for a moment. */
+/* A new file takes a name that nobody has. Where that cannot be done in one step (EINVAL, for an
+   old system too), the file has both names for a moment. */
 static int take_free_name(const char *fresh, const char *path)
 {
     if (renameat2(AT_FDCWD, fresh, AT_FDCWD, path, RENAME_NOREPLACE) == 0)
         return 1;
-    if ((errno != EINVAL && errno != ENOSYS) || link(fresh, path) != 0)
+    if (errno != EINVAL || link(fresh, path) != 0)
         return 0;
     if (unlink(fresh) != 0)
         complain_system(fresh, "cannot remove this second name of the new book");
