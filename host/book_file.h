@@ -49,10 +49,10 @@ int book_file_save_bytes(const struct book_file *file, const struct book *book,
                          struct saved *saved);
 
 /* Replaces the book and what stands beside it; says where the book is new, or was of the old
-   form. A crash leaves the old book or the new one, never less. What it leaves beside the old book: before any name is taken, nothing but files
-   under names of their own; after the digests, a digest of a book that never was; after the
-   log, lines off the trail, which do not count (see history.h); after BOOK.old, the old book
-   twice. */
+   form. A crash leaves the old book or the new one, never less. What it leaves beside the old
+   book: before any name is taken, nothing but files under names of their own; after the digests,
+   a digest of a book that never was; after the log, lines off the trail, which do not count (see
+   history.h); after BOOK.old, the old book twice. */
 enum take_result book_file_save(struct book_file *file, const struct saved *saved);
 
 /* Gives back the names and the lock, and removes new files that were not needed. */

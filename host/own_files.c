@@ -158,16 +158,22 @@ static int take_free_name(const char *fresh, const char *path)
     return 1;
 }
 
+/* A new file takes its name, in place of an old one unless the book is new. */
+static int take_name(const struct own_files *files, int which)
+{
+    if (which == OWN_BOOK && files->book_is_new)
+        return take_free_name(files->fresh[which], files->paths[which]);
+    return rename(files->fresh[which], files->paths[which]) == 0;
+}
+
 /* The new files from `first` up to `last` take their names; then the directory goes to the
    disk. */
 static int take_names(struct own_files *files, int directory, int first, int last)
 {
     for (int i = first; i < last; i++) {
-        int free_name = i == OWN_BOOK && files->book_is_new;
         if (files->fresh[i] == NULL)
             continue;
-        if (free_name ? !take_free_name(files->fresh[i], files->paths[i])
-                      : rename(files->fresh[i], files->paths[i]) != 0) {
+        if (!take_name(files, i)) {
             complain_system(files->paths[i], "cannot put the new file in its place");
             return 0;
         }
