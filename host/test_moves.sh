@@ -134,7 +134,6 @@ pass
 
 # --- never over the book that is read, by whatever name -------------------------------------------------
 copy_book former.book read.book
-copy_book new_too.book read_new.book
 run read.book two_copies.bwa
 copy_book read.book read_old.book
 cp read.book.old read_old.book
