@@ -48,6 +48,7 @@ lib: $(LIBRARY)
 
 host: target/c/wizqamul-host
 	@echo "target/c/wizqamul-host [--new] [--accept-book] [--again] [--roster ROSTER] BOOK [FILE..]"
+	@echo "target/c/wizqamul-host --to-new BOOK OUT, or --to-old BOOK OUT"
 
 # More than a million calls, given to the library and to the independent implementation.
 compare: target/c/compare

@@ -104,6 +104,7 @@ int book_file_find(struct book_file *file, const char *name, const struct wishes
         complain_system(name, "cannot find the book or its directory");
         return 0;
     }
+    file->files.book_is_new = wishes->make_new;
     named = own_files_name(&file->files, path);
     free(path);
     if (!named)
@@ -224,20 +225,25 @@ static int judge_digest(struct book_file *file)
     return 0;
 }
 
-/* How many whole lines stand at the front of a saved book, valid or not. */
-static size_t count_lines(const struct saved *saved)
+int saved_is_old(const struct saved *saved)
+{
+    return saved->length > 0 && saved->bytes[0] == WQ_SAVE_OLD_LINE;
+}
+
+/* How many whole lines of the old form stand at the front of a saved book, valid or not. */
+static size_t count_old_lines(const struct saved *saved)
 {
     size_t count = 0;
-    while ((count + 1) * WQ_SAVE_LINE_WIDTH <= saved->length &&
-           saved->bytes[count * WQ_SAVE_LINE_WIDTH] == WQ_SAVE_LINE)
+    while ((count + 1) * WQ_SAVE_OLD_LINE_WIDTH <= saved->length &&
+           saved->bytes[count * WQ_SAVE_OLD_LINE_WIDTH] == WQ_SAVE_OLD_LINE)
         count++;
     return count;
 }
 
-/* A saved line behind its byte of kind. */
-static const uint8_t *line_at(const struct saved *saved, size_t index)
+/* A saved line of the old form behind its byte of kind. */
+static const uint8_t *old_line_at(const struct saved *saved, size_t index)
 {
-    return saved->bytes + index * WQ_SAVE_LINE_WIDTH + 1;
+    return saved->bytes + index * WQ_SAVE_OLD_LINE_WIDTH + 1;
 }
 
 /* Names two saved lines that share a key. */
@@ -257,17 +263,17 @@ static void complain_of_shared(const char *path, const uint8_t *first, const uin
 
 /* Tells why a book is no valid save, as far as that is easily seen. Two orders could share
    school, supplier and reference as long as the article was a part of a line's key, so a book
-   of that time may be refused though nothing happened to it. */
+   of that time, which is of the old form, may be refused though nothing happened to it. */
 static void complain_of_invalid(const char *path, const struct saved *saved)
 {
-    size_t count = count_lines(saved), shared = 0;
+    size_t count = count_old_lines(saved), shared = 0;
     for (size_t i = 0; i < count; i++) {
         size_t first = 0;
-        while (memcmp(line_at(saved, first), line_at(saved, i), WQ_LINE_KEY_WIDTH) != 0)
+        while (memcmp(old_line_at(saved, first), old_line_at(saved, i), WQ_LINE_KEY_WIDTH) != 0)
             first++;
         if (first == i)
             continue;
-        complain_of_shared(path, line_at(saved, first), line_at(saved, i));
+        complain_of_shared(path, old_line_at(saved, first), old_line_at(saved, i));
         shared++;
     }
     complain(path, shared == 0
@@ -326,17 +332,30 @@ static int accept_book(struct book_file *file)
            own_files_take(&file->files) == TAKE_DONE;
 }
 
-/* A new book is empty, and its past begins with this run. */
-static int begin_new(struct book_file *file, struct book *book)
+/* The name of a new book has to be free still, now that it is locked; what stands beside it
+   may be of an earlier book of this name. */
+static int begin_book(struct book_file *file)
 {
     struct stat status;
     if (lstat(file->files.paths[OWN_BOOK], &status) == 0) {
         complain(file->files.paths[OWN_BOOK], "somebody else made this book just now");
         return 0;
     }
-    return history_read(&file->history, &file->files) && judge_old(file) &&
-           book_file_save_bytes(file, book, &file->loaded) &&
+    return history_read(&file->history, &file->files) && judge_old(file);
+}
+
+/* A new book is empty, and its past begins with this run. */
+static int begin_new(struct book_file *file, struct book *book)
+{
+    return begin_book(file) && book_file_save_bytes(file, book, &file->loaded) &&
            history_add_new(&file->history, file->loaded.digest);
+}
+
+int book_file_begin_moved(struct book_file *file, const struct book_file *from,
+                          const struct saved *saved)
+{
+    return begin_book(file) && history_add_past(&file->history, &from->history) &&
+           history_add_moved(&file->history, from->loaded.digest, saved->digest);
 }
 
 /* The book is read before the digests: its own stands there before it takes its name. */
@@ -372,7 +391,7 @@ int book_file_save_bytes(const struct book_file *file, const struct book *book,
 }
 
 /* Writes all new files; none has taken its name yet. A book whose saved bytes did not change
-   stays, and so does the one before it; they hold no message and no expected date. */
+   stays, and so does the one before it. */
 static int write_all(struct book_file *file, const struct saved *saved)
 {
     struct own_files *files = &file->files;
@@ -393,8 +412,13 @@ enum take_result book_file_save(struct book_file *file, const struct saved *save
     enum take_result result = TAKE_FAILED;
     if (write_all(file, saved))
         result = own_files_take(&file->files);
-    if (result != TAKE_FAILED && file->wishes.make_new)
+    if (result == TAKE_FAILED)
+        return result;
+    if (file->wishes.make_new)
         complain(file->files.paths[OWN_BOOK], "a new book was made");
+    else if (saved_is_old(&file->loaded) && !saved_is_old(saved))
+        complain(file->files.paths[OWN_BOOK], "the book was of the old form and is now of the "
+                 "new one, which keeps messages");
     return result;
 }
 

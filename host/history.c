@@ -243,6 +243,27 @@ int history_add_accepted(struct history *history, const char *to)
     return end(&addition, &history->log);
 }
 
+int history_add_moved(struct history *history, const char *from, const char *to)
+{
+    struct addition addition;
+    if (!begin_entry(&addition, history, from, to))
+        return 0;
+    fputs("a book moved to the other form\n", addition.stream);
+    return end(&addition, &history->log);
+}
+
+int history_add_past(struct history *history, const struct history *other)
+{
+    struct addition addition;
+    size_t head = strlen(LOG_HEAD);
+    if (other->log.length == 0)
+        return 1;
+    if (!begin(&addition, &history->log, LOG_HEAD))
+        return 0;
+    fwrite(other->log.start + head, 1, other->log.length - head, addition.stream);
+    return end(&addition, &history->log);
+}
+
 int history_add_file(struct history *history, const char *from, const char *to,
                      const struct logged_file *file)
 {

@@ -11,7 +11,9 @@
  * trail that leads back from the book at hand, and a line that is not on the trail tells of
  * a book that is not this one: its run broke off before the book was in place, or an older
  * book was put back. Such a line does not count. A trail begins with `from new` for a new
- * book; `from any`, for a book taken on purpose, lets every line above it count. */
+ * book; `from any`, for a book taken on purpose, lets every line above it count. The log of a
+ * book that was moved to the other form has the lines of the book that it was made of, and
+ * then a line that leads from that book to it. */
 #ifndef HISTORY_H
 #define HISTORY_H
 
@@ -49,8 +51,12 @@ void history_judge(const struct history *history, const struct own_files *files,
 int history_add_digest(struct history *history, const char *digest);
 int history_add_new(struct history *history, const char *to);
 int history_add_accepted(struct history *history, const char *to);
+int history_add_moved(struct history *history, const char *from, const char *to);
 int history_add_file(struct history *history, const char *from, const char *to,
                      const struct logged_file *file);
+
+/* Adds all lines of another book's log, for a book that goes on from that one. */
+int history_add_past(struct history *history, const struct history *other);
 
 /* Writes the texts as new files that wait to take their names; the log only where something
    was added. */

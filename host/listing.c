@@ -55,13 +55,13 @@ static void print_who(const char *supplier, const char *reference, const char *a
 }
 
 /* What the line's last report said. Zeros and blanks for a day mean the same to whoever waits
-   for the title: none was named. A save keeps the mark alone of a report. */
+   for the title: none was named. A save of the old form kept the mark alone of a report. */
 static void print_report(const wq_told *figures)
 {
     if (figures->message == WQ_NO_REPORT)
         printf("  no report yet\n");
     else if (figures->message == WQ_MESSAGE_UNKNOWN)
-        printf("  message of an earlier run, not kept\n");
+        printf("  -        not known (old book)\n");
     else if (figures->expected == WQ_EXPECTED_DAY)
         printf(MESSAGE_FORMAT "%04" PRIu64 "%02" PRIu64 "%02" PRIu64 "\n", figures->message,
                figures->year, figures->month, figures->day);

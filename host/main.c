@@ -2,11 +2,14 @@
  *
  *   wizqamul-host [OPTION..] BOOK FILE..   books the records of each FILE in order, saves, lists
  *   wizqamul-host BOOK                     books nothing and lists; it writes and locks nothing
+ *   wizqamul-host --to-new BOOK OUT        makes of BOOK, of the old form, OUT of the new form
+ *   wizqamul-host --to-old BOOK OUT        and back, where no message would be lost
  *
- * BOOK is a file that holds a saved book. `-` as FILE is standard input. Nothing is booked
- * unless every FILE was read to its end, and nothing is saved unless every answer was printed.
- * A FILE whose bytes were booked into this book before is named and left out. Every record
- * meets the roster; without one the program says so, and refuses nothing for it.
+ * BOOK is a file that holds a saved book, of the old form or the new; it is saved in the new
+ * one. `-` as FILE is standard input. Nothing is booked unless every FILE was read to its end,
+ * and nothing is saved unless every answer was printed. A FILE whose bytes were booked into
+ * this book before is named and left out. Every record meets the roster; without one the
+ * program says so, and refuses nothing for it.
  *
  * Options, before BOOK:
  *   --new             makes a new book, with or without a FILE; there must be none yet
@@ -14,12 +17,15 @@
  *   --again           books a FILE whose bytes were booked before
  *   --roster ROSTER   books for the schools of this file alone (see roster.h), up to their
  *                     ceilings, and lists open copies against them
+ * The two moves stand alone: no option goes with them. They leave BOOK and what stands beside it
+ * as they are, and make a book OUT that is not there yet (see moving.h).
  *
  * Exit codes:
  *   0  done; each record was booked, or needs no booking (answers 13 and 17)
  *   1  done and saved, but somebody should look: a record was refused, a FILE left out since
  *      it was booked before, or the roster names an account twice or no school at all
- *   2  wrong use, or trouble with a file; the book stands as it was before the run
+ *   2  wrong use, or trouble with a file; the book stands as it was before the run, and a move
+ *      made no OUT
  *   3  the book is saved, but what comes after that went wrong (see standard error)
  *
  * Beside BOOK stand BOOK.old (the book before the last run that changed it), BOOK.digests,
@@ -29,6 +35,7 @@
 
 #include "booking.h"
 #include "listing.h"
+#include "moving.h"
 #include "records.h"
 #include "text.h"
 
@@ -40,13 +47,17 @@
 
 enum exit_code { ALL_BOOKED = 0, WORTH_A_LOOK = 1, NOT_SAVED = 2, TROUBLE_AFTER_SAVE = 3 };
 
+enum { MOVE_ARGUMENTS = 4 };    /* the program, the option, BOOK and OUT */
+
 /* What was asked for. */
 struct request {
+    char *book;
+    const struct move *move;    /* the move that is asked for, or NULL; */
+    char *out;                  /* it makes this book of `book`, and nothing below counts */
     struct wishes wishes;
     int again;
-    char *roster;           /* the file, or NULL */
-    char *book;
-    char **names;           /* the FILEs */
+    char *roster;               /* the file, or NULL */
+    char **names;               /* the FILEs */
     int count;
 };
 
@@ -54,6 +65,8 @@ static int usage(void)
 {
     fprintf(stderr, "usage: " PROGRAM " [--new] [--accept-book] [--again] [--roster ROSTER] "
             "BOOK [FILE..]\n"
+            "       " PROGRAM " --to-new BOOK OUT\n"
+            "       " PROGRAM " --to-old BOOK OUT\n"
             "Books the records of each FILE (- is standard input) into BOOK, saves it,\n"
             "and lists what is still open for each school.\n"
             "  --new            make a new book\n"
@@ -62,6 +75,9 @@ static int usage(void)
             "  --roster ROSTER  book for the schools of this file alone, up to their ceilings,\n"
             "                   and list open copies against them; one school a line:\n"
             "                   43210 VD 500 (address, qualifier, ceiling), # starts a comment\n"
+            "  --to-new         make of BOOK, of the old form, a book OUT of the new form\n"
+            "  --to-old         and back, where no message would be lost; no other option goes\n"
+            "                   with these two, BOOK stays as it is, and OUT must not be there\n"
             "Exit codes: 0 done, 1 done but some records refused, a FILE left out or the roster\n"
             "doubtful, 2 nothing saved, 3 saved, but trouble after that.\n");
     return NOT_SAVED;
@@ -109,11 +125,24 @@ static int take_option(struct request *request, char **arguments, int left)
     return 2;
 }
 
+/* The arguments of a move: its option, and two books. */
+static int take_move(struct request *request, int count, char **arguments)
+{
+    if (count != MOVE_ARGUMENTS || !is_name(arguments[2]) || !is_name(arguments[3]))
+        return 0;
+    request->book = arguments[2];
+    request->out = arguments[3];
+    return 1;
+}
+
 /* The arguments: options, a book, and files, standard input at most once among them. */
 static int take_arguments(struct request *request, int count, char **arguments)
 {
     int at = 1, dashes = 0;
     memset(request, 0, sizeof *request);
+    request->move = count > 1 ? move_named(arguments[1]) : NULL;
+    if (request->move != NULL)
+        return take_move(request, count, arguments);
     while (at < count && strncmp(arguments[at], "--", 2) == 0) {
         int taken = take_option(request, arguments + at, count - at);
         if (taken == 0)
@@ -272,20 +301,62 @@ static enum exit_code run_with_roster(struct book_file *file, const struct reque
     return NOT_SAVED;
 }
 
-int main(int argument_count, char **arguments)
+/* The last word of a move, on standard output; of one that failed on standard error too. */
+static enum exit_code end_move(const struct moving *moving, const struct request *request,
+                               enum take_result taken)
+{
+    enum exit_code code = taken == TAKE_DONE ? ALL_BOOKED : TROUBLE_AFTER_SAVE;
+    if (taken == TAKE_FAILED) {
+        complain(request->out, "nothing was written");
+        printf("nothing was written: the book stands as it was before this run\n");
+        fflush(stdout);
+        return NOT_SAVED;
+    }
+    printf("moved to the %s form: ", request->move->form);
+    print_name(stdout, request->out);
+    printf(", used: %zu of %d lines, %zu of %d slips\n", moving->book.used[WQ_USED_LINES],
+           WQ_MOST_LINES, moving->book.used[WQ_USED_SLIPS], WQ_MOST_SLIPS);
+    if (!output_is_out())
+        code = TROUBLE_AFTER_SAVE;
+    if (code == TROUBLE_AFTER_SAVE)
+        complain(request->out, "the book is saved");
+    return code;
+}
+
+/* Moves a book to the other form. Of OUT nothing is said on a stream that is the book. */
+static enum exit_code run_move(const struct request *request)
+{
+    static struct moving moving;
+    enum exit_code code = NOT_SAVED;
+    if (moving_find_book(&moving, request->book) &&
+        streams_are_others(&moving.from.files, request->book) &&
+        moving_find_out(&moving, request->out) &&
+        streams_are_others(&moving.to.files, request->out))
+        code = end_move(&moving, request, moving_run(&moving, request->move));
+    moving_leave(&moving);
+    return code;
+}
+
+/* Books or lists. */
+static enum exit_code run_book(const struct request *request)
 {
     static struct book_file file;
-    struct request request;
     enum exit_code code = NOT_SAVED;
+    if (book_file_find(&file, request->book, &request->wishes) &&
+        streams_are_others(&file.files, request->book))
+        code = run_with_roster(&file, request);
+    book_file_leave(&file);
+    return code;
+}
+
+int main(int argument_count, char **arguments)
+{
+    struct request request;
     if (!streams_are_open())
         return NOT_SAVED;
     if (!take_arguments(&request, argument_count, arguments))
         return usage();
     signal(SIGPIPE, SIG_IGN);       /* a failed write is an error that we report, */
     signal(SIGXFSZ, SIG_IGN);       /* and not the end of the program */
-    if (book_file_find(&file, request.book, &request.wishes) &&
-        streams_are_others(&file.files, request.book))
-        code = run_with_roster(&file, &request);
-    book_file_leave(&file);
-    return code;
+    return request.move != NULL ? run_move(&request) : run_book(&request);
 }

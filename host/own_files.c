@@ -1,5 +1,5 @@
 /* The files beside a book: their names, and new files that take the place of old ones. */
-#define _XOPEN_SOURCE 700
+#define _GNU_SOURCE     /* renameat2 */
 
 #include "own_files.h"
 #include "text.h"
@@ -145,6 +145,27 @@ static int sync_directory(const struct own_files *files, int directory)
     return 0;
 }
 
+/* A new file takes a name that nobody has. Where that cannot be done in one step (EINVAL, for an
+   old system too), the file has both names for a moment. */
+static int take_free_name(const char *fresh, const char *path)
+{
+    if (renameat2(AT_FDCWD, fresh, AT_FDCWD, path, RENAME_NOREPLACE) == 0)
+        return 1;
+    if (errno != EINVAL || link(fresh, path) != 0)
+        return 0;
+    if (unlink(fresh) != 0)
+        complain_system(fresh, "cannot remove this second name of the new book");
+    return 1;
+}
+
+/* A new file takes its name, in place of an old one unless the book is new. */
+static int take_name(const struct own_files *files, int which)
+{
+    if (which == OWN_BOOK && files->book_is_new)
+        return take_free_name(files->fresh[which], files->paths[which]);
+    return rename(files->fresh[which], files->paths[which]) == 0;
+}
+
 /* The new files from `first` up to `last` take their names; then the directory goes to the
    disk. */
 static int take_names(struct own_files *files, int directory, int first, int last)
@@ -152,8 +173,8 @@ static int take_names(struct own_files *files, int directory, int first, int las
     for (int i = first; i < last; i++) {
         if (files->fresh[i] == NULL)
             continue;
-        if (rename(files->fresh[i], files->paths[i]) != 0) {
-            complain_system(files->paths[i], "cannot replace the file");
+        if (!take_name(files, i)) {
+            complain_system(files->paths[i], "cannot put the new file in its place");
             return 0;
         }
         free(files->fresh[i]);

@@ -30,6 +30,7 @@ struct own_files {
     char *paths[OWN_COUNT];
     char *fresh[OWN_COUNT];     /* new files that wait to take their names, or NULL */
     struct rights rights;       /* those of the book; all of its files have them */
+    int book_is_new;            /* the book takes its name only where nobody has it */
 };
 
 /* Makes the names from the book's own path, which holds a slash. Returns 0 without memory. */

@@ -101,7 +101,7 @@ copy_book() {
     done
 }
 
-for part in answers articles reports parts roster text files log rights runs faults; do
+for part in answers articles reports parts roster text files log forms moves rights runs faults; do
     . "$parts/test_$part.sh"
 done
 echo "host: $passed checks passed"

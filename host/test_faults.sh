@@ -5,18 +5,19 @@ if ! command -v strace >/dev/null && [ "$(id -u)" -eq 0 ] && command -v apt-get 
 fi
 
 # The calls at which something is injected; a ? lets a machine lack one.
-calls='openat,read,write,close,fsync,fcntl,fchmod,fchown,?rename,renameat,?renameat2,?fstat,?newfstatat,?stat,?lstat,?access,faccessat,?faccessat2,?readlink,readlinkat,?unlink,unlinkat'
+calls='openat,read,write,close,fsync,fcntl,fchmod,fchown,?rename,renameat,?renameat2,?link,linkat,?fstat,?newfstatat,?stat,?lstat,?access,faccessat,?faccessat2,?readlink,readlinkat,?unlink,unlinkat'
 
 # Runs the program on b in a fresh copy of the directory `calm`, with something injected. The
 # run has a roster, so that errors of reading it are injected too; without one it would say so
 # on standard error, where an error is not noticed.
 start_afresh() { rm -rf fault && cp -rp calm fault; }
-run_injected() {    # what is injected; then the arguments
+run_injected() {    # what is injected, besides $also; then the arguments
     inject=$1
     shift
     { (cd fault && timeout 30 strace -f -y -o ../trace -e "trace=$calls" \
-        ${inject:+-e "inject=$inject"} "$host" "$@" >../out 2>../err); code=$?; } 2>/dev/null
+        ${inject:+-e "inject=$inject"} ${also:+-e "inject=$also"} "$host" "$@" >../out 2>../err); code=$?; } 2>/dev/null
 }
+also=
 
 # All that stands beside the book, and the book.
 state_of() { cat "$1/b" "$1/b.old" "$1/b.digests" "$1/b.log"; }
@@ -37,7 +38,7 @@ list_points() {
                     if (lines[i] ~ /"\/(usr|etc)\// || (name ~ /stat/ && index(lines[i], "\"" here "/b"))) continue
                     own = index(lines[i], here) > 0
                     fresh = lines[i] ~ /<[^>]*\.wizqamul-new/
-                    must = name ~ /^(write|fsync|fchmod|rename|renameat|renameat2)$/ ||
+                    must = name ~ /^(write|fsync|fchmod|rename|renameat|renameat2|link|linkat)$/ && lines[i] !~ /write\(2</ ||
                            (name ~ /^(openat|read)$/ && own) || (name == "close" && fresh) ||
                            (name == "fcntl" && lines[i] ~ /F_SETLK/)
                     print name, count[name], must ? "must" : "may", fresh ? "fresh" : "other", lines[i] ~ /\.lock/ ? "lock" : "-"
@@ -153,7 +154,7 @@ start_stopped() {   # the call and its number; then the arguments
     inject="$1:signal=SIGSTOP:when=$2"
     shift 2
     rm -f stopped
-    (cd fault && exec strace -f -o ../stopped -e "trace=$calls" -e "inject=$inject" "$host" "$@" >../first.out 2>../first.err) &
+    (cd fault && exec strace -f -o ../stopped -e "trace=$calls" -e "inject=$inject" ${also:+-e "inject=$also"} "$host" "$@" >../first.out 2>../first.err) &
     child=$!
     tries=0
     until grep -q 'stopped by SIGSTOP' stopped 2>/dev/null; do
@@ -186,6 +187,154 @@ two_at_once() {
     expect_same fault/b want.book "the run that saves"
 }
 
+# --- moves: the book that is read stays, and the new one is whole or not there ---------------------------
+move_afresh() { rm -rf fault && cp -rp calm_old fault; }
+expect_moved() {    # what it is
+    state_of fault | cmp -s - calm_old.state || fail "$1: the book that is read is not as it was"
+    case $code in
+    0 | 3) cmp -s fault/new want_moved || fail "$1: the new book is not whole" ;;
+    2) [ ! -e fault/new ] || fail "$1: there is a new book" ;;
+    137) [ ! -e fault/new ] || cmp -s fault/new want_moved || fail "$1: the new book is there, but not whole" ;;
+    *) fail "$1: exit code $code" ;;
+    esac
+    [ ! -e fault/new ] || grep -q "^$(digest fault/new) " fault/new.digests || fail "$1: the digest of the new book is not known"
+    [ -z "$(find fault \( -name 'b*' -o -name 'new*' -o -name '.w*' \) -perm /077)" ] || fail "$1: a private file is open to others"
+}
+expect_next_move() {    # what it is: the move can be made then, and the new book knows its past
+    if [ ! -e fault/new ]; then
+        run --to-new fault/b fault/new
+        [ $code -eq 0 ] || fail "$1: the next move does not succeed"
+        expect_moved "$1, and a next move"
+    fi
+    run fault/new fault/two_copies.bwa
+    [ $code -eq 1 ] && grep -q 'two_copies.bwa: left out' err || fail "$1: the new book does not know its past"
+    grep -q 'whole past' err && fail "$1: the new book does not know its whole past"
+    pass
+}
+
+inject_move() {
+    move_afresh
+    run_injected "" --to-new b new
+    expect_code 0 "a traced move"
+    expect_moved "a traced move"
+    list_points >move_points
+    # Three new files go to the disk; two take their names, and the directory goes to the disk;
+    # then the book takes its name, and the directory goes to the disk again.
+    awk '/^fsync/ { print "sync", $4 } /^(rename|link)/ { print "rename" }' move_points | tr '\n' ' ' >got
+    echo "sync fresh sync fresh sync fresh rename rename sync other rename sync other " | tr -d '\n' >wanted
+    expect_text got wanted "the order of a move"
+    while read -r name number must fresh lock; do
+        at="$name number $number of a move"
+        move_afresh
+        run_injected "$name:error=EIO:when=$number" --to-new b new
+        expect_moved "error at $at"
+        [ $must = may ] || [ $code -ge 2 ] || fail "error at $at: it goes unnoticed"
+        expect_tidy fault "error at $at"
+        expect_next_move "error at $at"
+        case $name in openat | write | close | fsync | fchmod | rename* | unlink*)
+            move_afresh
+            run_injected "$name:signal=SIGKILL:when=$number" --to-new b new
+            [ $code -eq 137 ] || fail "killed at $at: exit code $code"
+            expect_moved "killed at $at"
+            expect_next_move "killed at $at" ;;
+        esac
+    done <move_points
+}
+
+# Where the file system cannot take a free name in one step, the new book has a second name for
+# a moment.
+inject_links() {
+    step=$(awk '/^renameat2/ { last = $2 } END { print last }' move_points)
+    for reason in EINVAL ENOSYS; do
+        also="renameat2:error=$reason:when=$step"
+        move_afresh
+        run_injected "" --to-new b new
+        expect_code 0 "a move by a second name"
+        expect_moved "a move by a second name"
+        expect_tidy fault "a move by a second name"
+        [ "$(stat -c %h fault/new)" -eq 1 ] || fail "a move by a second name: the new book has two names"
+        pass
+        list_points >link_points
+        expect_next_move "a move by a second name"
+    done
+    link=$(awk '/^link/ { print $1 }' link_points) unlink=$(awk '/^unlink/ { print $1; exit }' link_points)
+    for what in "$link:error=EIO" "$link:error=EEXIST" "$link:error=EPERM" "$link:signal=SIGKILL"; do
+        move_afresh
+        run_injected "$what" --to-new b new
+        expect_moved "a move by a second name, $what"
+        expect_none fault/new "a move by a second name, $what"
+        [ $code -eq 137 ] || expect_tidy fault "a move by a second name, $what"
+        also=
+        expect_next_move "a move by a second name, $what"
+        also="renameat2:error=EINVAL:when=$step"
+    done
+    move_afresh
+    run_injected "$unlink:signal=SIGKILL:when=1" --to-new b new
+    expect_code 137 "killed while the new book has two names"
+    expect_moved "killed while the new book has two names"
+    run fault/new
+    expect_code 0 "killed while the new book has two names"
+    move_afresh
+    run_injected "$unlink:error=EIO:when=1" --to-new b new
+    expect_code 0 "a second name that stays"
+    expect_err "cannot remove this second name of the new book" "a second name that stays"
+    expect_moved "a second name that stays"
+    also=
+}
+
+# What comes under the new book's name while the move is under way stays as it is.
+move_meanwhile() {
+    before=$(awk '$1 == "fsync" { last = this; this = $1 " " $2 } END { print last }' move_points)
+    for also in "" "renameat2:error=EINVAL:when=$step"; do
+        move_afresh
+        start_stopped $before --to-new b new
+        cp notes fault/new
+        go_on
+        expect_code 2 "somebody's file comes during a move"
+        expect_same fault/new notes "somebody's file comes during a move"
+        cp first.err err
+        expect_err "new: cannot put the new file in its place: File exists" "somebody's file comes during a move"
+        expect_tidy fault "somebody's file comes during a move"
+        state_of fault >got
+        expect_same got calm_old.state "somebody's file comes during a move"
+    done
+    also=
+    move_afresh
+    start_stopped $before --to-new b new
+    run --to-new fault/b fault/new
+    expect_code 2 "two moves at once"
+    expect_err "another run" "two moves at once"
+    go_on
+    expect_code 0 "the first of two moves"
+    expect_moved "the first of two moves"
+    move_afresh
+    start_stopped $(awk '$1 == "openat" && $5 == "lock" { print $1, $2; exit }' move_points) --to-new b new
+    run --new fault/new fault/two_copies.bwa
+    cp fault/new before.book
+    go_on
+    expect_code 2 "a new book is made during a move"
+    cp first.err err
+    expect_err "somebody else made this book just now" "a new book is made during a move"
+    expect_same fault/new before.book "a new book is made during a move"
+    # A new book does not replace what comes meanwhile either, and a move needs no lock of its book.
+    rm -rf fault && mkdir fault && cp order.bwa fault
+    run_injected "" --new b order.bwa
+    list_points >new_points
+    rm -rf fault && mkdir fault && cp order.bwa fault
+    start_stopped $(awk '$1 == "fsync" { last = this; this = $1 " " $2 } END { print last }' new_points) --new b order.bwa
+    cp notes fault/b
+    go_on
+    expect_code 2 "somebody's file comes while a book is made"
+    expect_same fault/b notes "somebody's file comes while a book is made"
+    move_afresh
+    start_stopped $(awk '$1 == "fsync" { last = this; this = $1 " " $2 } END { print last }' points) --roster roster b five.bwa
+    run --to-new fault/b fault/new
+    expect_code 0 "a move while a run books into the book"
+    expect_same fault/new want_moved "a move while a run books into the book"
+    go_on
+    expect_code 1 "the run that books during a move"
+}
+
 if strace -f -o /dev/null -e trace=getppid -e inject=getppid:error=EIO true 2>/dev/null; then
     mkdir calm
     copy_book kept.book calm/b
@@ -214,6 +363,19 @@ if strace -f -o /dev/null -e trace=getppid -e inject=getppid:error=EIO true 2>/d
     inject_new
     inject_answers
     inject_all
+    mkdir calm_old
+    copy_book former.book before_move.book
+    run before_move.book two_copies.bwa
+    cp before_move.book want_moved
+    run --to-old before_move.book calm_old/b
+    cp calm_old/b calm_old/b.old
+    cp two_copies.bwa five.bwa calm_old
+    echo "43210 VD 600" >calm_old/roster
+    chmod 600 calm_old/b*
+    state_of calm_old >calm_old.state
+    inject_move
+    inject_links
+    move_meanwhile
 else
     echo "host: faults at system calls not injected (no strace)"
 fi

@@ -68,7 +68,7 @@ while [ $number -lt 1513 ]; do
 done >lines
 { cat lines; printf '\000\001\002\000\000'; } >large.book
 damaged_accepted large.book 23 "book of 513 lines, accepted"
-head -c 79366 /dev/zero >long.book
+head -c 84486 /dev/zero >long.book
 refused_book long.book "no book is as long as this file" "book that is too long"
 run --accept-book long.book order.bwa
 expect_code 2 "book that is too long, accepted"

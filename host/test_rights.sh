@@ -97,6 +97,28 @@ else
     run_as_clerk desk/book
     expect_code 0 "list in a read-only directory"
     chmod u+w desk
+    # A move reads where nothing may be written, and makes nothing where it may not.
+    mkdir shut
+    copy_book former.book shut/book
+    [ -z "$clerk" ] || chown -R 65534:65534 shut
+    chmod 000 shut/book
+    run_as_clerk --to-new shut/book desk/moved
+    expect_code 2 "an unreadable book moved"
+    expect_err "cannot open the book: Permission denied" "an unreadable book moved"
+    nothing_made desk/moved "an unreadable book moved"
+    chmod 400 shut/book
+    chmod a-w shut
+    run_as_clerk --to-new shut/book shut/moved
+    expect_code 2 "a move into a read-only directory"
+    expect_err "cannot open the lock file: Permission denied" "a move into a read-only directory"
+    expect_out "nothing was written" "a move into a read-only directory"
+    nothing_made shut/moved "a move into a read-only directory"
+    run_as_clerk --to-new shut/book desk/moved
+    expect_code 0 "a move out of a read-only directory"
+    expect_same desk/moved new_form "a move out of a read-only directory"
+    expect_same shut/book old_form "a move out of a read-only directory"
+    expect_none shut/book.lock "a move out of a read-only directory"
+    chmod u+w shut
 fi
 if [ -n "$clerk" ] && [ "$clerk" != none ]; then
     copy_book schools.book desk/book
@@ -125,4 +147,13 @@ if [ -n "$clerk" ] && [ "$clerk" != none ]; then
     run_as_clerk desk/book six.bwa
     expect_code 0 "a group that can be kept"
     expect_mode desk/book -rw-rw---- "a group that can be kept"
+    copy_book former.book desk/old
+    chown 65534:65534 desk/old
+    chmod 640 desk/old
+    run --to-new desk/old desk/moved_by_root
+    expect_code 0 "root moves a clerk's book"
+    for ending in '' .digests .log .lock; do
+        [ "$(stat -c %u:%g:%a desk/moved_by_root$ending)" = 65534:65534:640 ] || fail "root moves a clerk's book: moved_by_root$ending is root's"
+        pass
+    done
 fi

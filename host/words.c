@@ -6,7 +6,7 @@
 #include <string.h>
 
 enum {
-    LAST_ANSWER = WQ_TOO_MANY_PARTS,
+    LAST_ANSWER = WQ_MESSAGE_LOST,
     QUANTITY_WIDTH = 4,
     FULL_ARTICLE_WIDTH = WQ_ARTICLE_WIDTH + WQ_QUALIFIER_WIDTH
 };
@@ -39,7 +39,8 @@ static const char *const answer_words[LAST_ANSWER + 1] = {
     "the school is not on the roster",
     "the order would bring the school above its ceiling",
     "a bundle without parts, or with parts that are not as they must be",
-    "a bundle of more than eight parts"
+    "a bundle of more than eight parts",
+    "the old form has no place for messages"
 };
 
 /* How a field is told where a record is named. */
