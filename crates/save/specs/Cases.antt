@@ -207,13 +207,20 @@ firstWrong n (c ∷ cs) = pick (eqb (load (c .saved) (roomy 2 2) .said .answer) 
 abbrev pub day : Lent
 day = book (put 63 "015J" Z) schools (book Y schools (book X schools (roomy 2 2) .lent) .lent) .lent
 
+-- the book after X and Y with a report J of a message and eight blanks; day has message 15
+unfoldable pub dayWith : ℕ → Lent
+dayWith message = record { lines = sets (withBoth 2 2 .lines) markAt (1 ∷ (leBytes 2 message ++ blankDate)); slips = withBoth 2 2 .slips; used = withBoth 2 2 .used }
+
+abbrev pub dayWhole : Lent
+dayWhole = dayWith 15
+
 -- the same rooms with other used counts: three lines, where there is room for two
 abbrev pub overused : Lent
-overused = record { lines = day .lines; slips = day .slips; used = 3 ∷ 1 ∷ [] }
+overused = record { lines = dayWhole .lines; slips = dayWhole .slips; used = 3 ∷ 1 ∷ [] }
 
 -- a room that is no whole number of lines
 abbrev pub oddRoom : Lent
-oddRoom = record { lines = take 131 (day .lines); slips = day .slips; used = 0 ∷ 0 ∷ [] }
+oddRoom = record { lines = take 131 (dayWhole .lines); slips = dayWhole .slips; used = 0 ∷ 0 ∷ [] }
 
 -- it saves to these bytes, with what stood behind them left as it was
 unfoldable pub daySaved : List ℕ
@@ -224,7 +231,7 @@ unfoldable pub dayOld : List ℕ
 dayOld = ours ++ (ourSlip ++ endOf 1 1)
 
 unfoldable pub dayLoaded : Lent
-dayLoaded = record { lines = sets (withBoth 2 2 .lines) markAt (1 ∷ (leBytes 2 messageUnknown ++ blankDate)); slips = withBoth 2 2 .slips; used = withBoth 2 2 .used }
+dayLoaded = dayWith messageUnknown
 
 -- the book after X and Y, to which no report has come, and the bytes that it saves to in each form
 abbrev pub unreported : Lent
