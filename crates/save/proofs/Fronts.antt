@@ -7,13 +7,13 @@ use native.Mathlib.Nat.{add-assoc}
 use native.Mathlib.Omega.{arith}
 use lib.Dec.{eqb, leb}
 use lib.ListN.{length, getD, take, drop, length-append}
-use lib.Seq.{slice, sets, take-take, take-all, take-at, take-append-add, drop-append-add, getD-append-add, getD-take}
+use lib.Seq.{slice, take-take, take-all, take-at, take-append-add, drop-append-add, getD-append-add, getD-take}
 use borrow.Author.Tests.{le-leb, eqb-true, eqb-false}
 use Rattle.cells.specs.Bytes.{same}
 use Rattle.cells.specs.Little.{leAt, leBytes}
 use Rattle.cells.proofs.Bools.{split}
 use Rattle.cells.proofs.Numbers.{le-back}
-use Rattle.cells.proofs.Stores.{sets-append, le-ext}
+use Rattle.cells.proofs.Stores.{le-ext}
 use Rattle.cells.proofs.Within.{number-within}
 use Rattle.entry.specs.Report.{noMark, leastMark, mostMark, blankDate, reportSound}
 use Rattle.entry.specs.Stored.{markAt, messageAt, expectedAt}
@@ -167,16 +167,3 @@ old-number body wide =
     let mark : ℕ = getD body markAt 0 in
     let n : leAt (body ++ unsaved mark) messageAt 2 ≡ unsavedMessage mark = number-past body (unsaved mark) messageAt wide 0 2 ∙ unsaved-number mark in
     rw n (split (eqb mark noMark) (λ e. rw e refl) (λ e. rw e refl))
-
--- message and blanks, stored one after the other
-pub unsaved-stored : (d : List ℕ) (at mark : ℕ) → sets (sets d at (leBytes 2 (unsavedMessage mark))) (at + 2) blankDate ≡ sets d at (unsaved mark)
-unfolding unsaved leBytes
-unsaved-stored d at mark =
-    let e : at + 2 ≡ suc (suc at) = omega arith in
-    rw e refl
-
--- a body of the old form and what was not saved behind it
-pub old-stored : (d : List ℕ) (at : ℕ) (body : List ℕ) → length body ≡ messageAt
-    → sets (sets d at body) (at + messageAt) (unsaved (getD body markAt 0)) ≡ sets d at (frontOf Old body)
-unfolding frontOf
-old-stored d at body e = rw (sets-append d at body (unsaved (getD body markAt 0)), e)

@@ -10,11 +10,11 @@ ghost use Rattle.save.specs.Saved.{savedSlipWidth, endWidth, lineFrontAt, slipB
 ghost use Rattle.save.specs.declared.form.Form.the-variants.{New};
 use cells::little::put2;
 use cells::paste_at;
+use fronts::put_line;
 use save::entries::SAVED_SLIP_WIDTH;
 use save::form::FRONT_WIDTH;
 use save::form::Form;
 use save::form::KIND_BYTE;
-use save::lines::put_line;
 use saved::END_KIND;
 use saved::SLIP_KIND;
 use stored::LINE_WIDTH;

@@ -1,9 +1,9 @@
--- `save::lines::put_unsaved` meets its contract: message and blanks are one run.
+-- `fronts::put_unsaved` meets its contract: message and blanks are one run.
 use mathlib.Core.Path.{_∙_}
-use Rattle.save.proofs.Fronts.{unsaved-stored}
+use Rattle.fronts.proofs.Stored.{unsaved-stored}
 use borrow.Author.Needs.{needs}
-use Rattle.save.proofs.lines.put_unsaved.Statement.{statement}
-use Rattle.save.proofs.lines.put_unsaved.Tie as tie
+use Rattle.fronts.proofs.put_unsaved.Statement.{statement}
+use Rattle.fronts.proofs.put_unsaved.Tie as tie
 
 unsaved-message-requires : tie.Need-unsaved-message-requires
 unsaved-message-requires c κs = search needs

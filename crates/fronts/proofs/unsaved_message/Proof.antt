@@ -1,8 +1,8 @@
--- `save::lines::unsaved_message` meets its contract.
+-- `fronts::unsaved_message` meets its contract.
 use borrow.Author.Tests.{eq-eqb, ne-eqb}
 use Rattle.save.specs.Form.{unsavedMessage}
-use Rattle.save.proofs.lines.unsaved_message.Statement.{statement}
-use Rattle.save.proofs.lines.unsaved_message.Tie as tie
+use Rattle.fronts.proofs.unsaved_message.Statement.{statement}
+use Rattle.fronts.proofs.unsaved_message.Tie as tie
 
 returns : tie.Need-returns
 unfolding unsavedMessage

@@ -1,11 +1,12 @@
--- `save::lines::put_front` meets its contract, form by form: behind a body of the old form stands what was not saved.
+-- `fronts::put_front` meets its contract, form by form: behind a body of the old form stands what was not saved.
 use mathlib.Core.Path.{_∙_}
 use native.Mathlib.Omega.{arith}
 use Rattle.save.specs.Form.{frontOf}
-use Rattle.save.proofs.Fronts.{width-least, width-most, old-width, old-stored}
+use Rattle.save.proofs.Fronts.{width-least, width-most, old-width}
+use Rattle.fronts.proofs.Stored.{old-stored}
 use borrow.Author.Needs.{needs}
-use Rattle.save.proofs.lines.put_front.Statement.{statement}
-use Rattle.save.proofs.lines.put_front.Tie as tie
+use Rattle.fronts.proofs.put_front.Statement.{statement}
+use Rattle.fronts.proofs.put_front.Tie as tie
 
 paste-at-requires : tie.Need-paste-at-requires
 paste-at-requires c κs =

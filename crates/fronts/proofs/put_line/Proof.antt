@@ -1,15 +1,15 @@
--- `save::lines::put_line` meets its contract, form by form: the byte of kind, then what the form has of the front.
+-- `fronts::put_line` meets its contract, form by form: the byte of kind, then what the form has of the front.
 use mathlib.Core.Path.{_≡_, _∙_}
 use native.Mathlib.Numerals.{add-one}
 use native.Mathlib.Omega.{arith}
 use lib.ListN.{length, length-set}
 use lib.Seq.{length-take-le}
 use Rattle.entry.specs.Stored.{messageAt}
 use Rattle.save.proofs.Bodies.{entry-wide}
 use Rattle.save.proofs.Fronts.{width-least, old-width, new-width, old-part, new-part}
 use borrow.Author.Needs.{needs}
-use Rattle.save.proofs.lines.put_line.Statement.{statement}
-use Rattle.save.proofs.lines.put_line.Tie as tie
+use Rattle.fronts.proofs.put_line.Statement.{statement}
+use Rattle.fronts.proofs.put_line.Tie as tie
 
 -- the front up to the message is in the body
 part-long : (c : tie.After-part) → length (c .part .result .now) ≡ messageAt
