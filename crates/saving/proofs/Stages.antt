@@ -18,7 +18,7 @@ use Rattle.save.proofs.Joined.{lines-long, slips-long}
 use Rattle.cells.proofs.Bools.{split}
 use Rattle.save.specs.declared.answer.Refused.the-variants.{Unsound, NoSave, TooSmall}
 use Rattle.save.specs.declared.form.Form.the-variants.{New}
-use Rattle.saving.proofs.Entries.{front-at-long, slip-at-long}
+use Rattle.filling.proofs.Entries.{front-at-long, slip-at-long}
 
 module _ (b : Lent) (out : List ℕ) where
   -- 20

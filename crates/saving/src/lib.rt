@@ -1,7 +1,4 @@
 // The public calls of saving and loading.
-pub mod input;
-pub mod output;
-
 ghost use mathlib.Core.Path.{_≡_};
 ghost use Rattle.book.specs.Lent.{lent};
 ghost use Prim.Native.Nat.{_+_, _*_, _≤_, _<_};
@@ -10,12 +7,12 @@ ghost use Rattle.entry.specs.Stored.{lineWidth, slipWidth};
 ghost use Rattle.save.specs.Form.{slipsAt};
 ghost use Rattle.save.specs.Saved.{savedSlipWidth, written, save};
 ghost use Rattle.save.specs.Load.{lentLoaded, outcome, load};
-use crate::input::take_lines;
-use crate::input::take_slips;
-use crate::output::put_end;
-use crate::output::put_lines;
-use crate::output::put_slips;
 use cells::little::get2;
+use filling::input::take_lines;
+use filling::input::take_slips;
+use filling::output::put_end;
+use filling::output::put_lines;
+use filling::output::put_slips;
 use finding::seek::MOST_LINES;
 use finding::seek::MOST_SLIPS;
 use finding::seek::is_room;

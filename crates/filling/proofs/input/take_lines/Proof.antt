@@ -1,4 +1,4 @@
--- `saving::input::take_lines` meets its contract. The invariant: the lines that are left, stored behind those before, make of the room what all of them make of it.
+-- `filling::input::take_lines` meets its contract. The invariant: the lines that are left, stored behind those before, make of the room what all of them make of it.
 use mathlib.Core.Path.{_≡_, _∙_, sym, refl}
 use Prim.Native.Nat.{ℕ, _+_, _*_, _-_, _≤_}
 use native.Mathlib.Omega.{arith}
@@ -12,10 +12,10 @@ use Rattle.save.specs.Saved.{joinedFrom, lineIn, slipIn}
 use Rattle.save.specs.Load.{lineFrom, loadedLine}
 use Rattle.save.proofs.Bodies.{body-long, line-before}
 use Rattle.save.proofs.Joined.{joined-next, joined-end}
-use Rattle.saving.proofs.Entries.{loaded-long}
+use Rattle.filling.proofs.Entries.{loaded-long}
 use borrow.Author.Needs.{needs}
-use Rattle.saving.proofs.input.take_lines.Statement.{statement}
-use Rattle.saving.proofs.input.take_lines.Tie as tie
+use Rattle.filling.proofs.input.take_lines.Statement.{statement}
+use Rattle.filling.proofs.input.take_lines.Tie as tie
 
 abbrev Inv-loop : tie.InvT-loop
 Inv-loop saved form n m lines₀ at i₀ lines i =

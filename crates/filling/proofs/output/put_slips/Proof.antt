@@ -1,4 +1,4 @@
--- `saving::output::put_slips` meets its contract. The invariant: the slips that are left, stored behind those before, make of the output what all of them make of it.
+-- `filling::output::put_slips` meets its contract. The invariant: the slips that are left, stored behind those before, make of the output what all of them make of it.
 use mathlib.Core.Path.{_≡_, _∙_, sym, refl}
 use mathlib.Core.List.{_∷_}
 use Prim.Native.Nat.{_+_, _*_, _-_, _≤_}
@@ -9,10 +9,10 @@ use lib.Seq.{sets}
 use Rattle.cells.proofs.Parts.{part-is}
 use Rattle.save.specs.Saved.{slipKind, joinedFrom, slipBodyAt, slipEntries}
 use Rattle.save.proofs.Joined.{joined-next, joined-end}
-use Rattle.saving.proofs.Entries.{slip-at-long}
+use Rattle.filling.proofs.Entries.{slip-at-long}
 use borrow.Author.Needs.{needs}
-use Rattle.saving.proofs.output.put_slips.Statement.{statement}
-use Rattle.saving.proofs.output.put_slips.Tie as tie
+use Rattle.filling.proofs.output.put_slips.Statement.{statement}
+use Rattle.filling.proofs.output.put_slips.Tie as tie
 
 abbrev Inv-loop : tie.InvT-loop
 Inv-loop out₀ start slips m j₀ out j =

@@ -1,11 +1,11 @@
--- `saving::output::put_entry` meets its contract: the byte of kind, then the body.
+-- `filling::output::put_entry` meets its contract: the byte of kind, then the body.
 use mathlib.Core.Path.{_∙_}
 use native.Mathlib.Omega.{arith}
 use native.Mathlib.Numerals.{add-one}
 use lib.ListN.{length-set}
 use borrow.Author.Needs.{needs}
-use Rattle.saving.proofs.output.put_entry.Statement.{statement}
-use Rattle.saving.proofs.output.put_entry.Tie as tie
+use Rattle.filling.proofs.output.put_entry.Statement.{statement}
+use Rattle.filling.proofs.output.put_entry.Tie as tie
 
 slice-write-out : tie.Need-slice-write-out
 slice-write-out c = search needs

@@ -1,11 +1,11 @@
--- `saving::output::put_end` meets its contract: the byte of kind and the two counts are one run.
+-- `filling::output::put_end` meets its contract: the byte of kind and the two counts are one run.
 use mathlib.Core.Path.{_∙_}
 use native.Mathlib.Omega.{arith}
 use lib.ListN.{length-set}
 use borrow.Author.Needs.{needs}
-use Rattle.saving.proofs.Entries.{end-stored}
-use Rattle.saving.proofs.output.put_end.Statement.{statement}
-use Rattle.saving.proofs.output.put_end.Tie as tie
+use Rattle.filling.proofs.Entries.{end-stored}
+use Rattle.filling.proofs.output.put_end.Statement.{statement}
+use Rattle.filling.proofs.output.put_end.Tie as tie
 
 slice-write-out : tie.Need-slice-write-out
 slice-write-out c = search needs

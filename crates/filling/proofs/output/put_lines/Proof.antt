@@ -1,4 +1,4 @@
--- `saving::output::put_lines` meets its contract. The invariant: the lines that are left, stored behind those before, make of the output what all of them make of it.
+-- `filling::output::put_lines` meets its contract. The invariant: the lines that are left, stored behind those before, make of the output what all of them make of it.
 use mathlib.Core.Path.{_≡_, _∙_, sym, refl}
 use mathlib.Core.List.{List, _∷_}
 use Prim.Native.Nat.{ℕ, _+_, _*_, _-_, _≤_}
@@ -12,10 +12,10 @@ use Rattle.save.specs.Form.{frontWidth, lineKind, lineBodyWidth, frontOf, saved
 use Rattle.save.specs.Saved.{joinedFrom, lineFrontAt, lineEntries}
 use Rattle.save.specs.declared.form.Form.the-variants.{New}
 use Rattle.save.proofs.Joined.{joined-next, joined-end, line-entry-long}
-use Rattle.saving.proofs.Entries.{front-at-long}
+use Rattle.filling.proofs.Entries.{front-at-long}
 use borrow.Author.Needs.{needs}
-use Rattle.saving.proofs.output.put_lines.Statement.{statement}
-use Rattle.saving.proofs.output.put_lines.Tie as tie
+use Rattle.filling.proofs.output.put_lines.Statement.{statement}
+use Rattle.filling.proofs.output.put_lines.Tie as tie
 
 -- the entry of a line
 abbrev entry : List ℕ → ℕ → List ℕ

@@ -1,4 +1,4 @@
--- `saving::input::take_slips` meets its contract. The invariant: the slips that are left, stored behind those before, make of the room what all of them make of it.
+-- `filling::input::take_slips` meets its contract. The invariant: the slips that are left, stored behind those before, make of the room what all of them make of it.
 use mathlib.Core.Path.{_≡_, _∙_, sym, refl}
 use Prim.Native.Nat.{_+_, _*_, _-_, _≤_}
 use native.Mathlib.Omega.{arith}
@@ -9,8 +9,8 @@ use Rattle.save.specs.Saved.{joinedFrom, slipIn}
 use Rattle.save.proofs.Bodies.{slip-long}
 use Rattle.save.proofs.Joined.{joined-next, joined-end}
 use borrow.Author.Needs.{needs}
-use Rattle.saving.proofs.input.take_slips.Statement.{statement}
-use Rattle.saving.proofs.input.take_slips.Tie as tie
+use Rattle.filling.proofs.input.take_slips.Statement.{statement}
+use Rattle.filling.proofs.input.take_slips.Tie as tie
 
 abbrev Inv-loop : tie.InvT-loop
 Inv-loop saved at m slips₀ j₀ slips j =

@@ -1,13 +1,13 @@
--- `saving::input::take_line` meets its contract: front and A are one run.
+-- `filling::input::take_line` meets its contract: front and A are one run.
 use mathlib.Core.Path.{_∙_}
 use Prim.Native.Nat.{_*_}
 use Rattle.entry.specs.Stored.{lineWidth}
 use Rattle.save.specs.Form.{frontOf}
 use Rattle.save.proofs.Fronts.{front-wide}
-use Rattle.saving.proofs.Entries.{line-stored}
+use Rattle.filling.proofs.Entries.{line-stored}
 use borrow.Author.Needs.{needs}
-use Rattle.saving.proofs.input.take_line.Statement.{statement}
-use Rattle.saving.proofs.input.take_line.Tie as tie
+use Rattle.filling.proofs.input.take_line.Statement.{statement}
+use Rattle.filling.proofs.input.take_line.Tie as tie
 
 mul-at : tie.Need-mul-at
 mul-at c = search needs
