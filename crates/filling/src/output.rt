@@ -11,7 +11,7 @@ ghost use Rattle.save.specs.declared.form.Form.the-variants.{New};
 use cells::little::put2;
 use cells::paste_at;
 use fronts::put_line;
-use save::entries::SAVED_SLIP_WIDTH;
+use kept::SAVED_SLIP_WIDTH;
 use save::form::FRONT_WIDTH;
 use save::form::Form;
 use save::form::KIND_BYTE;

@@ -1,4 +1,3 @@
-// The saved book: what saving, loading and moving answer, the two forms, and entries judged by their bodies.
+// The saved book: what saving, loading and moving answer, and the two forms.
 pub mod answer;
-pub mod entries;
 pub mod form;

@@ -1,16 +1,16 @@
--- `save::entries::is_line_kept` meets its contract: its key and article, its copies, then its last report.
+-- `kept::is_line_kept` meets its contract: its key and article, its copies, then its last report.
 use mathlib.Core.Path.{_≡_, _∙_}
 use native.Mathlib.Omega.{arith}
 use lib.ListN.{take}
 use Rattle.cells.proofs.Bools.{is-not, is-so}
 use Rattle.cells.specs.Little.{leAt}
 use Rattle.entry.specs.Stored.{orderedAt, messageAt}
 use Rattle.save.specs.Entries.{referenceAt, lineFields, fieldsKept, lineKept}
 use Rattle.save.specs.Form.{frontOf}
 use Rattle.save.proofs.Fronts.{width-least, front-kept, take-same, number-same}
 use borrow.Author.Needs.{needs}
-use Rattle.save.proofs.entries.is_line_kept.Statement.{statement}
-use Rattle.save.proofs.entries.is_line_kept.Tie as tie
+use Rattle.kept.proofs.is_line_kept.Statement.{statement}
+use Rattle.kept.proofs.is_line_kept.Tie as tie
 
 -- the key and article are judged as a line's
 named-here : (c : tie.After-is-line-named)

@@ -1,16 +1,16 @@
--- `save::entries::body_in` meets its contract.
+-- `kept::body_in` meets its contract.
 use mathlib.Core.Path.{_≡_}
 use Prim.Native.Nat.{suc, _+_, _*_, _≤_}
 use native.Mathlib.Omega.{arith}
 use lib.ListN.{length}
 use denote.Ref.{now}
 use Rattle.cells.proofs.Parts.{part-is}
 use Rattle.save.specs.Form.{lineBodyWidth, savedLineWidth}
 use Rattle.save.specs.Saved.{bodyIn}
 use Rattle.save.proofs.Bodies.{entry-wide}
 use borrow.Author.Needs.{needs}
-use Rattle.save.proofs.entries.body_in.Statement.{statement}
-use Rattle.save.proofs.entries.body_in.Tie as tie
+use Rattle.kept.proofs.body_in.Statement.{statement}
+use Rattle.kept.proofs.body_in.Tie as tie
 
 -- the entry stands in the save
 stands : (c : tie.After-line-width)

@@ -1,10 +1,10 @@
--- `save::entries::is_line_named` meets its contract: its parties, then its other fields.
+-- `kept::is_line_named` meets its contract: its parties, then its other fields.
 use mathlib.Core.Path.{_≡_, _∙_}
 use Rattle.cells.proofs.Bools.{is-not, is-so}
 use Rattle.save.proofs.Keys.{some-barred, all-allowed, partiesKept, parties-judged, line-judged}
 use borrow.Author.Needs.{needs}
-use Rattle.save.proofs.entries.is_line_named.Statement.{statement}
-use Rattle.save.proofs.entries.is_line_named.Tie as tie
+use Rattle.kept.proofs.is_line_named.Statement.{statement}
+use Rattle.kept.proofs.is_line_named.Tie as tie
 
 -- the parties are judged where they stand
 parties-here : (c : tie.After-are-parties) → c .are-parties .result ≡ partiesKept (c .before .before .before .before .args .named .now)

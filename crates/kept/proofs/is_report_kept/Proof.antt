@@ -1,14 +1,14 @@
--- `save::entries::is_report_kept` meets its contract, form by form.
+-- `kept::is_report_kept` meets its contract, form by form.
 use mathlib.Core.Path.{_∙_, sym}
 use native.Mathlib.Omega.{arith}
 use lib.Seq.{length-slice}
 use Rattle.save.specs.Entries.{reportKept}
 use Rattle.entry.specs.Stored.{expectedAt}
 use Rattle.save.specs.Form.{frontWidth, frontOf}
 use Rattle.save.proofs.Fronts.{width-least, old-width, new-width, old-report}
 use borrow.Author.Needs.{needs}
-use Rattle.save.proofs.entries.is_report_kept.Statement.{statement}
-use Rattle.save.proofs.entries.is_report_kept.Tie as tie
+use Rattle.kept.proofs.is_report_kept.Statement.{statement}
+use Rattle.kept.proofs.is_report_kept.Tie as tie
 use Rattle.cells.proofs.little.get2.Reads as get2-reads
 use Rattle.cells.proofs.part.Reads as part-reads
 use Rattle.entry.proofs.report.is_report_sound.Reads as is-report-sound-reads

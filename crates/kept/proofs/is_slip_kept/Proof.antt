@@ -1,4 +1,4 @@
--- `save::entries::is_slip_kept` meets its contract, test by test: its key, its copies, its line, whose parties it has.
+-- `kept::is_slip_kept` meets its contract, test by test: its key, its copies, its line, whose parties it has.
 use mathlib.Core.Path.{_≡_, _∙_, ap, sym}
 use native.Mathlib.Omega.{arith}
 use borrow.Author.Tests.{lt-ltb, le-ltb}
@@ -7,14 +7,14 @@ use Rattle.cells.specs.Bytes.{within}
 use Rattle.cells.proofs.Bools.{is-not, is-so}
 use Rattle.entry.specs.Stored.{slipKeyWidth, mostCopies}
 use Rattle.book.specs.Booking.{slipFields}
 use Rattle.save.specs.Entries.{slipNumberAt, fieldsKept, lineIndex, slipCopies, slipKept}
 use Rattle.save.specs.Form.{frontOf}
 use Rattle.save.specs.Saved.{bodyIn, lineIn}
 use Rattle.save.proofs.Bodies.{line-before, body-long}
 use Rattle.save.proofs.Fronts.{front-kept, parties-same}
 use borrow.Author.Needs.{needs}
-use Rattle.save.proofs.entries.is_slip_kept.Statement.{statement}
-use Rattle.save.proofs.entries.is_slip_kept.Tie as tie
+use Rattle.kept.proofs.is_slip_kept.Statement.{statement}
+use Rattle.kept.proofs.is_slip_kept.Tie as tie
 
 -- the key is judged as a slip's
 key-here : (c : tie.After-is-slip-key) → c .is-slip-key .result ≡ fieldsKept slipFields slipNumberAt (take slipKeyWidth (c .before .before .before .before .args .body .now))

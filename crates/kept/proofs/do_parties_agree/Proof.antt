@@ -1,8 +1,8 @@
--- `save::entries::do_parties_agree` meets its contract.
+-- `kept::do_parties_agree` meets its contract.
 use Rattle.save.specs.Entries.{partiesAgree}
 use borrow.Author.Needs.{needs}
-use Rattle.save.proofs.entries.do_parties_agree.Statement.{statement}
-use Rattle.save.proofs.entries.do_parties_agree.Tie as tie
+use Rattle.kept.proofs.do_parties_agree.Statement.{statement}
+use Rattle.kept.proofs.do_parties_agree.Tie as tie
 
 part-requires : tie.Need-part-requires
 part-requires c κs = search needs

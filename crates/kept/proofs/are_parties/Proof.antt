@@ -1,8 +1,8 @@
--- `save::entries::are_parties` meets its contract.
+-- `kept::are_parties` meets its contract.
 use Rattle.save.proofs.Keys.{parties-judged}
 use borrow.Author.Needs.{needs}
-use Rattle.save.proofs.entries.are_parties.Statement.{statement}
-use Rattle.save.proofs.entries.are_parties.Tie as tie
+use Rattle.kept.proofs.are_parties.Statement.{statement}
+use Rattle.kept.proofs.are_parties.Tie as tie
 
 part-requires : tie.Need-part-requires
 part-requires c κs = search needs
