@@ -36,13 +36,13 @@ book: target/bin/desk tools
 	@test -n "$(FILE)" || { echo "usage: make book FILE=examples/day.bwa" >&2; exit 2; }
 	@$(RUN) target/bin/desk < "$(FILE)"
 
-# The layout of every file; every proof, every must-fail edit and every program; then the C library against an independent implementation, and the host program, two of these side by side. The verdict of the proofs stands last.
+# The layout of every file; every proof, every must-fail edit and every program; then the C library against an independent implementation, and the host program, side by side: the host's tests wait more than they work. The verdict of the proofs stands last.
 test: tools
 	@rt fmt --check
 	@log=$$(mktemp); trap 'rm -f $$log' EXIT; \
 	LOG=$$log tests/proving.sh all rt ci || exit 1; verdict=$$(tail -n 1 $$log); \
 	case "$$verdict" in *" passed, 0 failed") ;; *) exit 1 ;; esac; \
-	$(MAKE) --no-print-directory -j2 -O header compare desk-compare desk-fault sanitized host-test && echo "$$verdict"
+	$(MAKE) --no-print-directory -j3 -O header compare desk-compare desk-fault sanitized host-test && echo "$$verdict"
 
 lib: $(LIBRARY)
 
