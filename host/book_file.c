@@ -53,14 +53,14 @@ static void take_rights(struct rights *rights, const struct stat *status)
 
 /* Why a book that is there cannot serve, or NULL. A run that writes asks for the right to
    write before it touches anything; where nobody has it, not even the superuser gets it. */
-static const char *trouble_with(const struct wishes *wishes, const char *name,
+static const char *trouble_with(const struct intent *intent, const char *name,
                                 const struct stat *status)
 {
     if (!S_ISREG(status->st_mode))
         return "the book is not an ordinary file";
-    if (wishes->make_new)
+    if (intent->make_new)
         return "there is such a book already; --new makes a book that is not there";
-    if (wishes->write && ((status->st_mode & WRITE_BITS) == 0 || access(name, W_OK) != 0))
+    if (intent->write && ((status->st_mode & WRITE_BITS) == 0 || access(name, W_OK) != 0))
         return "the book is write-protected";
     return NULL;
 }
@@ -74,14 +74,14 @@ static int judge_book(struct book_file *file, const char *name, int exists)
     mode_t mask = umask(0);
     umask(mask);
     file->files.rights.mode = FILE_MODE & ~mask;
-    if (!exists && !file->wishes.make_new)
+    if (!exists && !file->intent.make_new)
         trouble = "there is no such book; --new makes a new one";
     if (exists && stat(name, &status) != 0) {
         complain_system(name, "cannot look at the book");
         return 0;
     }
     if (exists) {
-        trouble = trouble_with(&file->wishes, name, &status);
+        trouble = trouble_with(&file->intent, name, &status);
         take_rights(&file->files.rights, &status);
     }
     if (trouble != NULL)
@@ -91,20 +91,20 @@ static int judge_book(struct book_file *file, const char *name, int exists)
 
 /* Follows symbolic links, so that a new book replaces the file and not the link, and so
    that two names of one book share one lock. */
-int book_file_find(struct book_file *file, const char *name, const struct wishes *wishes)
+int book_file_find(struct book_file *file, const char *name, const struct intent *intent)
 {
     char *path = realpath(name, NULL);
     int exists = path != NULL, named;
     memset(file, 0, sizeof *file);
     file->lock = -1;
-    file->wishes = *wishes;
+    file->intent = *intent;
     if (path == NULL && errno == ENOENT)
         path = path_in_directory(name);
     if (path == NULL) {
         complain_system(name, "cannot find the book or its directory");
         return 0;
     }
-    file->files.book_is_new = wishes->make_new;
+    file->files.book_is_new = intent->make_new;
     named = own_files_name(&file->files, path);
     free(path);
     if (!named)
@@ -148,7 +148,7 @@ static int judge_file(struct book_file *file, const struct stat *status)
     const char *trouble = NULL;
     if (!S_ISREG(status->st_mode))
         trouble = "the book is not an ordinary file";
-    else if (file->wishes.write && status->st_nlink > 1)
+    else if (file->intent.write && status->st_nlink > 1)
         trouble = "the book has a second name (a hard link), which would keep the old book; "
                   "make a copy of its own for one of them";
     else if (status->st_size > LONGEST_SAVE)
@@ -213,7 +213,7 @@ static int judge_digest(struct book_file *file)
     }
     if (history_knows_book(&file->history, file->loaded.digest))
         return 1;
-    if (file->wishes.accept) {
+    if (file->intent.accept) {
         complain(path, "this book was not saved here as it stands; it is taken on purpose");
         return 1;
     }
@@ -323,7 +323,7 @@ static int judge_old(const struct book_file *file)
 /* A book that is taken on purpose is known from now on. */
 static int accept_book(struct book_file *file)
 {
-    if (!file->wishes.accept || history_knows_book(&file->history, file->loaded.digest))
+    if (!file->intent.accept || history_knows_book(&file->history, file->loaded.digest))
         return 1;
     return history_add_digest(&file->history, file->loaded.digest) &&
            history_add_accepted(&file->history, file->loaded.digest) &&
@@ -363,12 +363,12 @@ int book_file_load(struct book_file *file, struct book *book)
 {
     book->used[WQ_USED_LINES] = 0;
     book->used[WQ_USED_SLIPS] = 0;
-    if (file->wishes.make_new)
+    if (file->intent.make_new)
         return begin_new(file, book);
     if (!read_book(file) || !history_read(&file->history, &file->files) ||
         !judge_digest(file) || !load_bytes(file, book))
         return 0;
-    if (!file->wishes.write)
+    if (!file->intent.write)
         return 1;
     if (!judge_old(file) || !accept_book(file))
         return 0;
@@ -397,9 +397,9 @@ static int write_all(struct book_file *file, const struct saved *saved)
     struct own_files *files = &file->files;
     if (!history_write_log(&file->history, files))
         return 0;
-    if (!file->wishes.make_new && strcmp(saved->digest, file->loaded.digest) == 0)
+    if (!file->intent.make_new && strcmp(saved->digest, file->loaded.digest) == 0)
         return 1;
-    if (!file->wishes.make_new &&
+    if (!file->intent.make_new &&
         !own_files_write(files, OWN_OLD, file->loaded.bytes, file->loaded.length))
         return 0;
     return history_add_digest(&file->history, saved->digest) &&
@@ -414,7 +414,7 @@ enum take_result book_file_save(struct book_file *file, const struct saved *save
         result = own_files_take(&file->files);
     if (result == TAKE_FAILED)
         return result;
-    if (file->wishes.make_new)
+    if (file->intent.make_new)
         complain(file->files.paths[OWN_BOOK], "a new book was made");
     else if (saved_is_old(&file->loaded) && !saved_is_old(saved))
         complain(file->files.paths[OWN_BOOK], "the book was of the old form and is now of the "

@@ -20,7 +20,7 @@ struct saved {
 int saved_is_old(const struct saved *saved);
 
 /* What the run may do with the book. */
-struct wishes {
+struct intent {
     int make_new;       /* --new: there is no book yet, and one is to be made */
     int accept;         /* --accept-book: take a book that was not saved here */
     int write;          /* the run changes the book or what stands beside it */
@@ -28,14 +28,14 @@ struct wishes {
 
 struct book_file {
     struct own_files files;     /* the book's path, symbolic links followed, and the others */
-    struct wishes wishes;
+    struct intent intent;
     struct history history;
     int lock;                   /* the open lock file, or -1 */
     struct saved loaded;        /* the book as it was loaded */
 };
 
 /* Each returns 1 where it succeeds; else it has said why on standard error. */
-int book_file_find(struct book_file *file, const char *name, const struct wishes *wishes);
+int book_file_find(struct book_file *file, const char *name, const struct intent *intent);
 int book_file_lock(struct book_file *file);
 int book_file_load(struct book_file *file, struct book *book);
 

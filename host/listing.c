@@ -176,11 +176,12 @@ static void print_schools(const struct book *book)
     printf("\n");
 }
 
-void print_listing(const struct book *book)
+size_t print_listing(const struct book *book, const struct choice *choice)
 {
     const uint8_t *sorted[WQ_MOST_LINES];
     struct sums all = {0, 0, 0, 0, 0, 0};
     size_t count = book->used[WQ_USED_LINES];
+    (void)choice;
     for (size_t i = 0; i < count; i++)
         sorted[i] = book->lines + i * WQ_LINE_WIDTH;
     qsort(sorted, count, sizeof sorted[0], compare_keys);
@@ -193,6 +194,7 @@ void print_listing(const struct book *book)
            book->used[WQ_USED_SLIPS], WQ_MOST_SLIPS);
     if (book->roster->name != NULL)
         print_schools(book);
+    return count;
 }
 
 /* One room: how much of it is used, of how many, and what it holds. */

@@ -57,14 +57,14 @@ static int names_are_apart(const struct moving *moving, const char *out)
 
 int moving_find_book(struct moving *moving, const char *book)
 {
-    static const struct wishes read_only = {0, 0, 0};
+    static const struct intent read_only = {0, 0, 0};
     moving->to.lock = -1;
     return book_file_find(&moving->from, book, &read_only);
 }
 
 int moving_find_out(struct moving *moving, const char *out)
 {
-    static const struct wishes make_new = {1, 0, 1};
+    static const struct intent make_new = {1, 0, 1};
     return is_free(&moving->from.files, out) && book_file_find(&moving->to, out, &make_new) &&
            names_are_apart(moving, out);
 }
