@@ -104,20 +104,22 @@ static enum exit_code run(struct book_file *file, struct input *inputs,
                           const struct request *request, const struct roster *roster)
 {
     static struct book book;
-    struct booking booking = {request->again, {0, 0, 0}, 0, 0, 0, NULL, NULL, 0};
+    struct booking booking;
     enum exit_code code;
+    memset(&booking, 0, sizeof booking);
+    booking.again = request->again;
     book.roster = roster;
     if (file->intent.write)
         code = book_all(file, &book, inputs, request->count, &booking);
     else
         code = book_file_load(file, &book) ? code_of(&booking, roster) : NOT_SAVED;
     if (code == NOT_SAVED) {
-        booking_leave(&booking);
+        retold_leave(&booking.refused);
         return end_unsaved(file);
     }
     print_listing(&book, &request->choice);
-    booking_print_refused(&booking);
-    booking_leave(&booking);
+    retold_print(&booking.refused, "records");
+    retold_leave(&booking.refused);
     warn_of_full_rooms(file->files.paths[OWN_BOOK], &book);
     if (!output_is_out())
         code = file->intent.write ? TROUBLE_AFTER_SAVE : NOT_SAVED;

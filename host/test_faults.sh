@@ -277,7 +277,7 @@ inject_links() {
     move_afresh
     run_injected "$unlink:error=EIO:when=1" --to-new b new
     expect_code 0 "a second name that stays"
-    expect_err "cannot remove this second name of the new book" "a second name that stays"
+    expect_err "cannot remove this second name of the new file" "a second name that stays"
     expect_moved "a second name that stays"
     also=
 }

@@ -2,6 +2,7 @@
 #include "text.h"
 
 #include <errno.h>
+#include <stdlib.h>
 #include <string.h>
 
 enum {
@@ -10,6 +11,7 @@ enum {
     FIRST_LEADING = 0xC2, LAST_LEADING = 0xF4,  /* bytes that UTF-8 letters begin with */
     FOLLOWING = 0x80, FOLLOWING_MASK = 0xC0, FOLLOWING_BITS = 6,
     LONGEST_LETTER = 4,
+    ESCAPE_WIDTH = 4,                           /* \xNN */
     FIRST_SURROGATE = 0xD800, LAST_SURROGATE = 0xDFFF, LAST_LETTER = 0x10FFFF
 };
 
@@ -95,6 +97,24 @@ void print_name(FILE *to, const char *name)
             fprintf(to, "\\x%02X", (unsigned)(unsigned char)*name++);
         }
     }
+}
+
+char *name_printed(const char *text, size_t length)
+{
+    char *name = malloc(length + 1);
+    size_t at = 0;
+    for (size_t i = 0; name != NULL && i < length; at++) {
+        unsigned byte = (unsigned char)text[i];
+        if (byte == '\\' && length - i >= ESCAPE_WIDTH &&
+            sscanf(text + i, "\\x%2X", &byte) == 1)
+            i += ESCAPE_WIDTH;
+        else
+            i++;
+        name[at] = (char)byte;
+    }
+    if (name != NULL)
+        name[at] = '\0';
+    return name;
 }
 
 static FILE *complaints;
