@@ -5,10 +5,6 @@
 #include <inttypes.h>
 #include <string.h>
 
-#define UTF_8_MARK "\xEF\xBB\xBF"
-#define UTF_16_MARK "\xFF\xFE"
-#define UTF_16_MARK_TURNED "\xFE\xFF"
-
 enum {
     MOST_ROSTER = 1 << 20,          /* bytes of a file; no roster is longer */
     MOST_TOLD = WQ_MOST_SCHOOLS,    /* wrong lines that are told; a file with more is no roster */
@@ -56,16 +52,14 @@ static int next_line(struct reading *reading, struct part *line)
     const uint8_t *at = reading->at, *comment;
     if (at == reading->end)
         return 0;
-    while (at < reading->end && *at != '\n' && *at != '\r')
+    while (at < reading->end && line_end(at) == 0)
         at++;
     line->start = reading->at;
     line->length = (size_t)(at - reading->at);
     comment = memchr(line->start, '#', line->length);
     if (comment != NULL)
         line->length = (size_t)(comment - line->start);
-    if (reading->end - at > 1 && at[0] == '\r' && at[1] == '\n')
-        at++;
-    reading->at = at < reading->end ? at + 1 : at;
+    reading->at = at + line_end(at);
     reading->line++;
     return 1;
 }
@@ -91,11 +85,6 @@ static size_t cut(const struct part *line, struct part words[WORD_COUNT])
             words[count] = word;
         count++;
     }
-}
-
-static int is_digit(uint8_t byte)
-{
-    return byte >= '0' && byte <= '9';
 }
 
 /* Each takes a word over into the school; else it gives what is wrong with the word. */
@@ -236,31 +225,15 @@ static int judge(const struct reading *reading)
     return 1;
 }
 
-static int begins_with(const struct reading *reading, const char *mark)
-{
-    return strncmp((const char *)reading->at, mark, strlen(mark)) == 0;
-}
-
-/* The mark of UTF-8 at the front is passed over. UTF-16 text has a mark too, and no line of
-   it could be understood. */
-static int pass_mark(struct reading *reading)
-{
-    if (begins_with(reading, UTF_16_MARK) || begins_with(reading, UTF_16_MARK_TURNED)) {
-        complain(reading->roster->name, "this is UTF-16 text; save it as UTF-8 or plain text");
-        return 0;
-    }
-    if (begins_with(reading, UTF_8_MARK))
-        reading->at += strlen(UTF_8_MARK);
-    return 1;
-}
-
 /* Reads the whole text, so that all that is wrong with it is said at once. */
 static int read_schools(struct roster *roster, const struct bytes *bytes)
 {
     struct reading reading = {roster, bytes->start, bytes->start + bytes->length, 0, {0}, 0, 0, 0};
     struct part line, words[WORD_COUNT];
-    if (!pass_mark(&reading))
+    size_t start;
+    if (!text_start(roster->name, bytes->start, &start))
         return 0;
+    reading.at += start;
     while (next_line(&reading, &line)) {
         size_t count = cut(&line, words);
         wq_school school;

@@ -5,13 +5,17 @@
 #include <stdlib.h>
 #include <string.h>
 
+#define UTF_8_MARK "\xEF\xBB\xBF"
+#define UTF_16_MARK "\xFF\xFE"
+#define UTF_16_MARK_TURNED "\xFE\xFF"
+
 enum {
     FIRST_ASCII = ' ', LAST_ASCII = '~',
     FIRST_WINDOWS = 128, FIRST_LATIN = 160,     /* from here on a byte is its own letter */
     FIRST_LEADING = 0xC2, LAST_LEADING = 0xF4,  /* bytes that UTF-8 letters begin with */
     FOLLOWING = 0x80, FOLLOWING_MASK = 0xC0, FOLLOWING_BITS = 6,
-    LONGEST_LETTER = 4,
     ESCAPE_WIDTH = 4,                           /* \xNN */
+    BYTE_ROOM = ESCAPE_WIDTH + 1,
     FIRST_SURROGATE = 0xD800, LAST_SURROGATE = 0xDFFF, LAST_LETTER = 0x10FFFF
 };
 
@@ -24,6 +28,24 @@ static const char *const windows[FIRST_LATIN - FIRST_WINDOWS] = {
 static int is_plain(unsigned byte)
 {
     return byte >= FIRST_ASCII && byte <= LAST_ASCII && byte != '\\';
+}
+
+int is_digit(uint8_t byte)
+{
+    return byte >= '0' && byte <= '9';
+}
+
+size_t line_end(const uint8_t *text)
+{
+    if (text[0] == '\r' && text[1] == '\n')
+        return 2;
+    return text[0] == '\r' || text[0] == '\n';
+}
+
+int is_sign(uint8_t byte)
+{
+    return byte >= FIRST_LATIN || (byte >= FIRST_WINDOWS && windows[byte - FIRST_WINDOWS] != NULL) ||
+           (byte >= FIRST_ASCII && byte <= LAST_ASCII);
 }
 
 /* One byte of a field as text; gives the number of bytes written. */
@@ -48,6 +70,15 @@ void text_of(const uint8_t *field, size_t width, char text[TEXT_ROOM])
         text += byte_as_text(field[i], text);
 }
 
+void print_text(FILE *to, const uint8_t *bytes, size_t length)
+{
+    char text[BYTE_ROOM];
+    for (size_t i = 0; i < length; i++) {
+        byte_as_text(bytes[i], text);
+        fputs(text, to);
+    }
+}
+
 void text_with_qualifier(const uint8_t *field, size_t width, char text[ACCOUNT_ROOM])
 {
     char qualifier[TEXT_ROOM];
@@ -64,32 +95,52 @@ void print_padded(const char *text, size_t letters)
     printf("%s%*s", text, (int)(shown < letters ? letters - shown : 0), "");
 }
 
-/* How many bytes the UTF-8 letter at the start of a text has; 0 where none stands there. The
-   control signs 128 to 159 are no letters. */
-static size_t letter_length(const char *text)
+size_t letter_length(const char *text, unsigned long *letter)
 {
-    static const unsigned long least[LONGEST_LETTER + 1] = {0, 0, FIRST_LATIN, 0x800, 0x10000};
+    static const unsigned long least[LONGEST_LETTER + 1] = {0, 0, FIRST_WINDOWS, 0x800, 0x10000};
     unsigned first = (unsigned char)text[0];
     size_t length = first >= 0xF0 ? 4 : first >= 0xE0 ? 3 : 2;
-    unsigned long letter = first & (0x7Fu >> length);
+    *letter = first & (0x7Fu >> length);
     if (first < FIRST_LEADING || first > LAST_LEADING)
         return 0;
     for (size_t i = 1; i < length; i++) {
         unsigned next = (unsigned char)text[i];
         if ((next & FOLLOWING_MASK) != FOLLOWING)
             return 0;
-        letter = letter << FOLLOWING_BITS | (next & ~(unsigned)FOLLOWING_MASK);
+        *letter = *letter << FOLLOWING_BITS | (next & ~(unsigned)FOLLOWING_MASK);
     }
-    if (letter < least[length] || letter > LAST_LETTER ||
-        (letter >= FIRST_SURROGATE && letter <= LAST_SURROGATE))
+    if (*letter < least[length] || *letter > LAST_LETTER ||
+        (*letter >= FIRST_SURROGATE && *letter <= LAST_SURROGATE))
         return 0;
     return length;
+}
+
+int windows_byte(unsigned long letter)
+{
+    unsigned long sign;
+    if (letter >= FIRST_LATIN && letter <= UINT8_MAX)
+        return (int)letter;
+    for (int i = 0; i < FIRST_LATIN - FIRST_WINDOWS; i++)
+        if (windows[i] != NULL && letter_length(windows[i], &sign) > 0 && sign == letter)
+            return FIRST_WINDOWS + i;
+    return -1;
+}
+
+/* How many bytes at the start of a name are shown as they are: those of one letter, or none. The
+   control signs 128 to 159 are shown by no terminal. */
+static size_t shown_length(const char *name)
+{
+    unsigned long letter;
+    size_t length = letter_length(name, &letter);
+    if (is_plain((unsigned char)*name))
+        return 1;
+    return letter < FIRST_LATIN ? 0 : length;
 }
 
 void print_name(FILE *to, const char *name)
 {
     while (*name != '\0') {
-        size_t length = is_plain((unsigned char)*name) ? 1 : letter_length(name);
+        size_t length = shown_length(name);
         if (length > 0) {
             fprintf(to, "%.*s", (int)length, name);
             name += length;
@@ -115,6 +166,20 @@ char *name_printed(const char *text, size_t length)
     if (name != NULL)
         name[at] = '\0';
     return name;
+}
+
+static int begins_with(const uint8_t *text, const char *mark)
+{
+    return strncmp((const char *)text, mark, strlen(mark)) == 0;
+}
+
+int text_start(const char *name, const uint8_t *text, size_t *start)
+{
+    *start = begins_with(text, UTF_8_MARK) ? strlen(UTF_8_MARK) : 0;
+    if (!begins_with(text, UTF_16_MARK) && !begins_with(text, UTF_16_MARK_TURNED))
+        return 1;
+    complain(name, "this is UTF-16 text; save it as UTF-8 or plain text");
+    return 0;
 }
 
 static FILE *complaints;
