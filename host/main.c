@@ -115,7 +115,9 @@ static enum exit_code run(struct book_file *file, struct input *inputs,
         booking_leave(&booking);
         return end_unsaved(file);
     }
-    print_listing(&book, &request->choice);
+    if (print_listing(&book, &request->choice) == 0 &&
+        warn_of_no_line(file->files.paths[OWN_BOOK], &request->choice) && code == ALL_DONE)
+        code = WORTH_A_LOOK;
     booking_print_refused(&booking);
     booking_leave(&booking);
     warn_of_full_rooms(file->files.paths[OWN_BOOK], &book);
