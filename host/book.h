@@ -22,6 +22,9 @@ wq_told book_figures(const struct book *book, const uint8_t key[WQ_LINE_KEY_WIDT
 /* The copies that are open on all lines of a school. */
 uint64_t book_open_copies(const struct book *book, const uint8_t account[ACCOUNT_WIDTH]);
 
+/* Whether the book has a line for this order: its key, its article and its quantity. */
+int book_has_order(const struct book *book, const struct record *order);
+
 /* The entry of the line, or of the slip, with this key, or NULL; the first one counts. */
 const uint8_t *book_line(const struct book *book, const uint8_t key[WQ_LINE_KEY_WIDTH]);
 const uint8_t *book_slip(const struct book *book, const uint8_t key[WQ_SLIP_KEY_WIDTH]);

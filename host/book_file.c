@@ -13,7 +13,6 @@
 #include <unistd.h>
 
 enum {
-    FILE_MODE = 0666,           /* for a new book: less what the umask takes away */
     MODE_BITS = 07777,
     WRITE_BITS = 0222,
     NOTE_ROOM = 6 * ACCOUNT_ROOM
@@ -71,9 +70,7 @@ static int judge_book(struct book_file *file, const char *name, int exists)
 {
     struct stat status;
     const char *trouble = NULL;
-    mode_t mask = umask(0);
-    umask(mask);
-    file->files.rights.mode = FILE_MODE & ~mask;
+    file->files.rights = rights_of_umask();
     if (!exists && !file->intent.make_new)
         trouble = "there is no such book; --new makes a new one";
     if (exists && stat(name, &status) != 0) {

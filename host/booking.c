@@ -6,11 +6,9 @@
 #include "text.h"
 #include "words.h"
 
-#include <stdlib.h>
 #include <string.h>
 
 enum {
-    MOST_REPEATED = 1000,       /* refused records that are told again at the end */
     WHEN_WIDTH = 20,            /* the time at the start of a log line */
     NOTE_ROOM = 120
 };
@@ -43,29 +41,36 @@ static struct tally book_records(struct booking *booking, struct book *book, str
     while (input_next(input, &record)) {
         wq_booked booked = book_record(book, &record);
         unsigned long before = tally.refused;
+        FILE *again;
         print_answer(stdout, input->name, ++number, &record, &booked, book);
         count_answer(&tally, booked.answer);
         booking->other_article += booked.answer == WQ_DONE && !booked.agreed;
         if (booked.answer == WQ_DONE && !print_parts(stdout, &record))
             booking->parts_untold++;
-        if (tally.refused > before && booking->all.refused + before < MOST_REPEATED)
-            print_answer(booking->refused, input->name, number, &record, &booked, book);
+        again = tally.refused > before ? retold_next(&booking->refused) : NULL;
+        if (again != NULL)
+            print_answer(again, input->name, number, &record, &booked, book);
     }
     return tally;
 }
 
-/* Whether the file is left out, since its bytes were booked into this book before. */
-static int is_left_out(struct booking *booking, const struct book_file *file,
-                       const struct saved *saved, const struct input *input)
+void warn_of_no_roster(const struct book_file *file, const struct book *book)
 {
-    const char *line = history_of_file(&file->history, saved->digest, input->digest);
+    if (book->roster->name == NULL)
+        complain(file->files.paths[OWN_BOOK], "no roster was named (--roster), so nothing is "
+                 "refused for a school or a ceiling");
+}
+
+int is_left_out(const struct book_file *file, const char *book, const char *name,
+                const char *digest)
+{
+    const char *line = history_of_file(&file->history, book, digest);
     char note[NOTE_ROOM];
-    if (line == NULL || booking->again)
+    if (line == NULL)
         return 0;
     snprintf(note, sizeof note, "left out: these bytes were booked at %.*s; --again books them "
              "once more", WHEN_WIDTH, line);
-    complain(input->name, note);
-    booking->left_out++;
+    complain(name, note);
     return 1;
 }
 
@@ -82,26 +87,28 @@ static int book_one(struct booking *booking, struct book_file *file, struct book
            history_add_file(&file->history, from, saved->digest, &logged);
 }
 
+/* Books one file, or leaves it out. */
+static int book_or_leave(struct booking *booking, struct book_file *file, struct book *book,
+                         struct input *input, struct saved *saved)
+{
+    if (booking->again || !is_left_out(file, saved->digest, input->name, input->digest))
+        return book_one(booking, file, book, input, saved);
+    booking->left_out++;
+    return 1;
+}
+
 int booking_run(struct booking *booking, struct book_file *file, struct book *book,
                 struct input *inputs, int count, struct saved *saved)
 {
-    booking->refused = open_memstream(&booking->text, &booking->length);
-    if (booking->refused == NULL) {
-        complain_system("memory", "cannot keep the refused records");
+    if (!retold_begin(&booking->refused))
         return 0;
-    }
-    if (count > 0 && book->roster->name == NULL)
-        complain(file->files.paths[OWN_BOOK], "no roster was named (--roster), so nothing is "
-                 "refused for a school or a ceiling");
+    if (count > 0)
+        warn_of_no_roster(file, book);
     *saved = file->loaded;
     for (int i = 0; i < count; i++)
-        if (!is_left_out(booking, file, saved, &inputs[i]) &&
-            !book_one(booking, file, book, &inputs[i], saved))
+        if (!book_or_leave(booking, file, book, &inputs[i], saved))
             return 0;
-    if (fflush(booking->refused) == 0 && !ferror(booking->refused))
-        return 1;
-    complain("memory", "there is not enough to keep the refused records");
-    return 0;
+    return retold_end(&booking->refused);
 }
 
 void booking_print_tally(const struct booking *booking)
@@ -114,21 +121,4 @@ void booking_print_tally(const struct booking *booking)
         printf("bundles booked whose parts cannot be told: %lu\n", booking->parts_untold);
     if (booking->left_out > 0)
         printf("files booked before, and left out: %lu\n", booking->left_out);
-}
-
-void booking_print_refused(const struct booking *booking)
-{
-    if (booking->all.refused == 0)
-        return;
-    printf("\nRefused records, once more: %lu\n", booking->all.refused);
-    fwrite(booking->text, 1, booking->length, stdout);
-    if (booking->all.refused > MOST_REPEATED)
-        printf("and %lu more, each in its place above\n", booking->all.refused - MOST_REPEATED);
-}
-
-void booking_leave(struct booking *booking)
-{
-    if (booking->refused != NULL)
-        fclose(booking->refused);
-    free(booking->text);
 }

@@ -4,8 +4,7 @@
 
 #include "book_file.h"
 #include "records.h"
-
-#include <stdio.h>
+#include "retold.h"
 
 struct booking {
     int again;                  /* --again: files that were booked before are booked too */
@@ -13,9 +12,7 @@ struct booking {
     unsigned long left_out;     /* files that were booked before */
     unsigned long other_article; /* records booked under another article than the order's */
     unsigned long parts_untold; /* bundles booked whose parts cannot be told */
-    FILE *refused;              /* answers that are told again at the end, */
-    char *text;                 /* in memory */
-    size_t length;
+    struct retold refused;      /* answers that are told again at the end */
 };
 
 /* Books each file, prints its answers and adds it to the log in memory; gives the book as it
@@ -23,10 +20,15 @@ struct booking {
 int booking_run(struct booking *booking, struct book_file *file, struct book *book,
                 struct input *inputs, int count, struct saved *saved);
 
-/* How many records came to which end, and at the end the refused ones once more. */
-void booking_print_tally(const struct booking *booking);
-void booking_print_refused(const struct booking *booking);
+/* Says on standard error where a run that books has no roster. */
+void warn_of_no_roster(const struct book_file *file, const struct book *book);
 
-void booking_leave(struct booking *booking);
+/* Whether a file is left out, since its bytes were booked into this book before; it is said. The
+   book at hand has the digest `book`. */
+int is_left_out(const struct book_file *file, const char *book, const char *name,
+                const char *digest);
+
+/* How many records came to which end. */
+void booking_print_tally(const struct booking *booking);
 
 #endif

@@ -15,6 +15,7 @@
 #define LOG_HEAD "# wizqamul-host: files booked into this book. Lines are added, never changed.\n"
 #define FROM_NEW "new"
 #define FROM_ANY "any"
+#define WAIT_IN "wait in "
 
 enum {
     MOST_TEXT = 1 << 28,        /* no text beside a book grows as long as this */
@@ -104,56 +105,92 @@ static int read_entry(const char *line, struct entry *entry)
                   entry->to, entry->file) >= 2;
 }
 
-/* Where a walk up the log ends, and what it found. */
+/* A walk up the log along the trail of the book at hand. */
 struct trail {
-    const char *line;       /* the line that names the file, or NULL */
-    int whole;              /* whether the trail leads to the beginning of the book */
-    int strays;             /* whether the last line is not on the trail */
+    const char *text;
+    const char *line;           /* the line met last, or NULL behind the last one */
+    struct entry entry;         /* what it says */
+    char wanted[SHORT_ROOM];    /* the book that the next line has to lead to */
+    int strays;                 /* whether the last line of the log is not on the trail */
 };
 
-/* Goes up the log along the trail of the book at hand, up to the line of a file. */
-static struct trail walk(const struct history *history, const char *book, const char *file)
+/* Gives the next line on the trail; 0 at the beginning of the book or of the log. */
+static int go_up(struct trail *trail)
 {
-    struct trail trail = {NULL, 0, 0};
-    const char *text = (const char *)history->log.start, *line;
-    char wanted[SHORT_ROOM] = "";
-    int first = 1;
-    strncat(wanted, book, SHORT_DIGITS);
-    if (text == NULL)
-        return trail;
-    line = text + history->log.length;
-    while ((line = line_above(text, line)) != NULL && !trail.whole) {
-        struct entry entry;
-        int met = read_entry(line, &entry) &&
-                  (strcmp(wanted, FROM_ANY) == 0 || strcmp(wanted, entry.to) == 0);
-        trail.strays |= first && !met;
-        first = 0;
-        if (!met)
-            continue;
-        if (strcmp(entry.file, file) == 0)
-            trail.line = line;
-        trail.whole = trail.line != NULL || strcmp(entry.from, FROM_NEW) == 0;
-        strcpy(wanted, entry.from);
+    int met = 0;
+    if (strcmp(trail->wanted, FROM_NEW) == 0)
+        return 0;
+    while (trail->line != NULL && !met) {
+        int last = *trail->line == '\0';
+        trail->line = line_above(trail->text, trail->line);
+        if (trail->line == NULL)
+            break;
+        met = read_entry(trail->line, &trail->entry) &&
+              (strcmp(trail->wanted, FROM_ANY) == 0 || strcmp(trail->wanted, trail->entry.to) == 0);
+        trail->strays |= last && !met;
     }
-    trail.whole |= strcmp(wanted, FROM_ANY) == 0;
+    if (met)
+        strcpy(trail->wanted, trail->entry.from);
+    return met;
+}
+
+/* A trail begins behind the last line. */
+static struct trail trail_of(const struct history *history, const char *book)
+{
+    struct trail trail = {(const char *)history->log.start, NULL, {"", "", ""}, "", 0};
+    strncat(trail.wanted, book, SHORT_DIGITS);
+    if (trail.text != NULL)
+        trail.line = trail.text + history->log.length;
     return trail;
 }
 
 const char *history_of_file(const struct history *history, const char *book, const char *file)
 {
-    return walk(history, book, file).line;
+    struct trail trail = trail_of(history, book);
+    while (go_up(&trail))
+        if (strcmp(trail.entry.file, file) == 0)
+            return trail.line;
+    return NULL;
 }
 
 void history_judge(const struct history *history, const struct own_files *files,
                    const char *book)
 {
-    struct trail trail = walk(history, book, "no file");
-    if (!trail.whole)
+    struct trail trail = trail_of(history, book);
+    while (go_up(&trail))
+        ;
+    if (strcmp(trail.wanted, FROM_NEW) != 0 && strcmp(trail.wanted, FROM_ANY) != 0)
         complain(files->paths[OWN_LOG], "it does not tell this book's whole past, so a file "
                  "that was booked before may not be known");
     if (trail.strays)
         complain(files->paths[OWN_LOG], "its last lines are of a run that broke off, or of a "
                  "book that was taken back; they do not count for this book");
+}
+
+/* What a line says of orders: where it goes on behind the run, or NULL. */
+static const char *orders_of(const char *line, char run[RUN_ROOM])
+{
+    int end = 0;
+    sscanf(line, "%*20s from %*16s to %*16[0-9a-f]: orders %16[0-9a-f] %n", run, &end);
+    return end == 0 ? NULL : line + end;
+}
+
+int history_waiting(const struct history *history, const char *book, struct waiting *waiting)
+{
+    struct trail trail = trail_of(history, book);
+    const char *rest = NULL;
+    waiting->directory = NULL;
+    while (rest == NULL && go_up(&trail))
+        rest = orders_of(trail.line, waiting->run);
+    if (rest == NULL || strncmp(rest, WAIT_IN, strlen(WAIT_IN)) != 0) {
+        waiting->run[0] = '\0';
+        return 1;
+    }
+    rest += strlen(WAIT_IN);
+    waiting->directory = name_printed(rest, strcspn(rest, "\n"));
+    if (waiting->directory == NULL)
+        complain("memory", "there is not enough");
+    return waiting->directory != NULL;
 }
 
 /* What is added to a text is printed into memory first. */
@@ -276,6 +313,26 @@ int history_add_file(struct history *history, const char *from, const char *to,
             file->roster[0] == '\0' ? "no roster" : "roster ", SHORT_DIGITS, file->roster);
     print_name(addition.stream, file->name);
     fputc('\n', addition.stream);
+    return end(&addition, &history->log);
+}
+
+int history_add_waiting(struct history *history, const char *book, const struct waiting *waiting)
+{
+    struct addition addition;
+    if (!begin_entry(&addition, history, book, book))
+        return 0;
+    fprintf(addition.stream, "orders %s " WAIT_IN, waiting->run);
+    print_name(addition.stream, waiting->directory);
+    fputc('\n', addition.stream);
+    return end(&addition, &history->log);
+}
+
+int history_add_out(struct history *history, const char *book, const char *run)
+{
+    struct addition addition;
+    if (!begin_entry(&addition, history, book, book))
+        return 0;
+    fprintf(addition.stream, "orders %s are out\n", run);
     return end(&addition, &history->log);
 }
 

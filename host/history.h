@@ -13,7 +13,14 @@
  * book was put back. Such a line does not count. A trail begins with `from new` for a new
  * book; `from any`, for a book taken on purpose, lets every line above it count. The log of a
  * book that was moved to the other form has the lines of the book that it was made of, and
- * then a line that leads from that book to it. */
+ * then a line that leads from that book to it.
+ *
+ * Behind the line of a wish list stands one that leads from the book to itself:
+ *
+ *   WHEN from BOOK to BOOK: orders RUN wait in DIRECTORY
+ *
+ * It takes its name with the book that has these orders, so orders of the book at hand wait in
+ * files (see out_files.h) from then on, until a line `orders RUN are out` follows. */
 #ifndef HISTORY_H
 #define HISTORY_H
 
@@ -43,6 +50,17 @@ int history_knows_book(const struct history *history, const char *digest);
 /* The line of the log that says that a file was booked into the book at hand, or NULL. */
 const char *history_of_file(const struct history *history, const char *book, const char *file);
 
+/* Orders whose files wait in a directory. */
+enum { RUN_DIGITS = 16, RUN_ROOM = RUN_DIGITS + 1 };
+struct waiting {
+    char run[RUN_ROOM];         /* the run that made them; empty where none wait */
+    char *directory;            /* free() gives it back */
+};
+
+/* Finds the orders of the book at hand that wait; only those of the last run that made any can.
+   Returns 0, and has said so, where there is not enough memory. */
+int history_waiting(const struct history *history, const char *book, struct waiting *waiting);
+
 /* Says on standard error where the log does not tell the whole past of the book at hand. */
 void history_judge(const struct history *history, const struct own_files *files,
                    const char *book);
@@ -54,6 +72,9 @@ int history_add_accepted(struct history *history, const char *to);
 int history_add_moved(struct history *history, const char *from, const char *to);
 int history_add_file(struct history *history, const char *from, const char *to,
                      const struct logged_file *file);
+
+int history_add_waiting(struct history *history, const char *book, const struct waiting *waiting);
+int history_add_out(struct history *history, const char *book, const char *run);
 
 /* Adds all lines of another book's log, for a book that goes on from that one. */
 int history_add_past(struct history *history, const struct history *other);

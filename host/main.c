@@ -44,6 +44,7 @@
 
 #include "arguments.h"
 #include "booking.h"
+#include "ordering.h"
 #include "records.h"
 #include "run.h"
 #include "text.h"
@@ -104,20 +105,24 @@ static enum exit_code run(struct book_file *file, struct input *inputs,
                           const struct request *request, const struct roster *roster)
 {
     static struct book book;
-    struct booking booking = {request->again, {0, 0, 0}, 0, 0, 0, NULL, NULL, 0};
+    struct booking booking;
     enum exit_code code;
+    memset(&booking, 0, sizeof booking);
+    booking.again = request->again;
     book.roster = roster;
     if (file->intent.write)
         code = book_all(file, &book, inputs, request->count, &booking);
     else
         code = book_file_load(file, &book) ? code_of(&booking, roster) : NOT_SAVED;
     if (code == NOT_SAVED) {
-        booking_leave(&booking);
+        retold_leave(&booking.refused);
         return end_unsaved(file);
     }
+    if (warn_of_waiting(file) && code == ALL_DONE)
+        code = WORTH_A_LOOK;
     print_listing(&book, &request->choice);
-    booking_print_refused(&booking);
-    booking_leave(&booking);
+    retold_print(&booking.refused, "records");
+    retold_leave(&booking.refused);
     warn_of_full_rooms(file->files.paths[OWN_BOOK], &book);
     if (!output_is_out())
         code = file->intent.write ? TROUBLE_AFTER_SAVE : NOT_SAVED;
@@ -152,10 +157,12 @@ static enum exit_code read_and_run(struct book_file *file, const struct request 
 static enum exit_code run_with_roster(struct book_file *file, const struct request *request)
 {
     static struct roster roster;
-    if (request->roster == NULL || roster_read(&roster, request->roster, &file->files))
-        return read_and_run(file, request, &roster);
-    complain(request->book, "nothing was done, since the roster cannot be used");
-    return NOT_SAVED;
+    if (request->roster != NULL && !roster_read(&roster, request->roster, &file->files)) {
+        complain(request->book, "nothing was done, since the roster cannot be used");
+        return NOT_SAVED;
+    }
+    return request->command == ORDER_WISHES ? run_order(file, request, &roster)
+                                            : read_and_run(file, request, &roster);
 }
 
 /* The last word of a move, on standard output; of one that failed on standard error too. */
@@ -202,7 +209,7 @@ static void say_old_form(const struct request *request)
              : "no word says what to do, so it is booked; better say " PROGRAM " book");
 }
 
-/* Books or lists. */
+/* Orders, books or lists. */
 static enum exit_code run_book(const struct request *request)
 {
     static struct book_file file;

@@ -2,10 +2,10 @@
 #ifndef OWN_FILES_H
 #define OWN_FILES_H
 
+#include "fresh.h"
 #include "whole.h"
 
 #include <sys/stat.h>
-#include <sys/types.h>
 
 /* In the order in which new ones are put in place: the book comes last. */
 enum own {
@@ -15,14 +15,6 @@ enum own {
     OWN_OLD,            /* BOOK.old: the book before the last run that changed it */
     OWN_BOOK,           /* BOOK */
     OWN_COUNT
-};
-
-/* Whom a file belongs to and who may use it. */
-struct rights {
-    int given;          /* 0: only the mode counts, and whoever runs the program owns it */
-    uid_t owner;
-    gid_t group;
-    mode_t mode;
 };
 
 struct own_files {
@@ -58,6 +50,10 @@ enum take_result {
 /* The new files take their names, in order; the directory is on the disk before the book
    takes its name, and after it. */
 enum take_result own_files_take(struct own_files *files);
+
+/* Puts the names in the directory on the disk once more, for a run that goes on from what an
+   earlier one saved; returns 0, and has said why, where it cannot. */
+int own_files_sync(const struct own_files *files);
 
 /* Removes new files that did not take their names, and gives back the memory. */
 void own_files_leave(struct own_files *files);

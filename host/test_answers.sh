@@ -2,13 +2,13 @@
 
 # --- a whole day, word for word -------------------------------------------------------------
 cp "$parts/../examples/day.bwa" day.bwa
-run --new day.book day.bwa
+run book --new day.book day.bwa
 expect_code 1 "a day"
 expect_text out "$parts/test_day.txt" "a day"
 expect_err "day.book: a new book was made" "a day"
 
 # --- the desk sample ------------------------------------------------------------------------
-run --new desk.book desk.bwa
+run book --new desk.book desk.bwa
 expect_code 1 "desk sample"
 expect_answers "1 B101 0 10 0 10 0 0
 2 L101 0 10 4 6 0 0
@@ -25,7 +25,7 @@ copy_book desk.book first.book
 put "$X" "$(order A-16 0003 '')" "$Y" "$(order A-17 0006 '' | sed 's/43210/43211/')" \
     "$(delivery 0001 0006 | sed 's/43210/43211/')" "$(order A-15 0002 '')" \
     "$(report 010N | sed 's/A-17/A-15/')" "$(order A-17 0008 '' | sed 's/43210     VD/43210     IB/')" >schools.bwa
-run --new schools.book schools.bwa
+run book --new schools.book schools.bwa
 expect_code 0 "two schools"
 list_of_run() { sed -n '/^School/,$p' out | sed 's/  */ /g' | grep -v '^ supplier'; }
 list_of_run >got
@@ -49,7 +49,7 @@ All schools
  used: 5 of 512 lines, 2 of 1024 slips
 LIST
 expect_text got wanted "two schools' list"
-run schools.book
+run list schools.book
 expect_code 0 "list alone"
 list_of_run >got
 expect_text got wanted "list alone"
@@ -106,7 +106,7 @@ M 66 hold mark
 M 67 expected date
 M 75 partial quantity
 FIELDS
-run --new fields.book fields.bwa
+run book --new fields.book fields.bwa
 expect_code 1 "each field"
 sed -n '/^records:/q;s/^fields.bwa:[0-9]* //;s/ |.*//;p' out >got
 expect_text got wanted_fields "each field"
@@ -121,7 +121,7 @@ put "$X" "$long" "" "$(order A-18 0010 "*8888$most")" "$(order A-19 0010 "*8888x
     "$(order A-22 0001 '*1029030')" "$(order A-22 0000 '')" "$(order A-17 0012 '')" \
     "$(delivery 0002 0001 | sed 's/A-17/A-99/')" "$(delivery 0001 0009 | sed 's/A-17/A-18/')" \
     "$(delivery 0003 0300 | sed 's/A-17/A-18/')" "$(delivery 0003 0044)" >odd.bwa
-run --new odd.book odd.bwa
+run book --new odd.book odd.bwa
 expect_code 1 "odd records"
 sed '/^records:/q' out >got
 who="school 43210 VD, supplier 24000 VD"
@@ -154,12 +154,12 @@ grep -v -e ' 0 done' -e '^records:' wanted >again
 expect_text got again "refused records, repeated at the end"
 put "$X" >tail.bwa
 printf '%s\r' "$Y" >>tail.bwa
-run --new tail.book tail.bwa
+run book --new tail.book tail.bwa
 expect_answers "1 B101 0 10 0 10 0 0
 2 L101 4" "a lone CR at the end"
 number=0
 while [ $number -lt 1003 ]; do printf 'x\r\n'; number=$((number + 1)); done >trash.bwa
-run --new trash.book trash.bwa
+run book --new trash.book trash.bwa
 expect_out "and 3 more, each in its place above" "very many refused records"
 [ "$(grep -c '^trash.bwa:1000 ' out)" -eq 2 ] && [ "$(grep -c '^trash.bwa:1001 ' out)" -eq 1 ] ||
     fail "very many refused records: not the first 1000 are repeated"
@@ -168,7 +168,7 @@ pass
 # --- 13 and 17 are no fault ---------------------------------------------------------------------
 put "$Y" "$(delivery 0007 0004 | sed 's/70012345/        /')" >usual.bwa
 copy_book schools.book usual.book
-run usual.book usual.bwa
+run book usual.book usual.bwa
 expect_code 0 "a repeated slip and an advance notice need no look"
 expect_out "records: 0 booked, 2 with nothing to book, 0 refused" "a repeated slip"
 expect_not "Refused records" out "a repeated slip"

@@ -20,7 +20,7 @@ put "$X" "$(order A-18 0003 '' | as "$own")" "$(order A-17 0006 '' | for_line 43
     "$(delivery 0007 0001 | for_line A-17 A-99 | as "$own")" "$(report 010N | for_line A-17 A-99 | as "$own")" \
     "$(delivery 0008 0000 | as "$own")" "$(delivery 0009 0001 | as "$own" | for_line 70012345 '        ')" \
     "$(order A-17 0010 '' | as "$title")" >articles.bwa
-run --new articles.book articles.bwa
+run book --new articles.book articles.bwa
 expect_code 1 "articles"
 ordered="| another article: ordered as 9783442756841 EN, answered as"
 from="supplier 24000 VD, school 43210 VD, slip number 70012345, reference A-17"
@@ -76,15 +76,15 @@ expect_text got wanted "the list after articles that differ"
 said="booked under another article than the order's"
 put "$(delivery 0002 0001 | as "$own")" "$(delivery 0003 0001)" >own.bwa
 put "$(report 015J | as "$own")" "$(delivery 0002 0001 | as "$title")" "$(delivery 0004 0001 | as "$title")" >names.bwa
-run --new own.book order.bwa own.bwa names.bwa delivery.bwa
+run book --new own.book order.bwa own.bwa names.bwa delivery.bwa
 expect_code 0 "articles in two files"
 expect_out "records: 6 booked, 1 with nothing to book, 0 refused" "articles in two files"
 grep "$said" out >got
 echo "$said: 3" >wanted
 expect_text got wanted "articles in two files"
-run own.book
+run list own.book
 expect_code 0 "a list after articles that differ"
 expect_not "$said" out "a list after articles that differ"
-run --again own.book delivery.bwa order.bwa
+run book --again own.book delivery.bwa order.bwa
 expect_out "records: 0 booked, 1 with nothing to book, 1 refused" "no article that differs"
 expect_not "$said" out "no article that differs"

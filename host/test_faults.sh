@@ -64,7 +64,7 @@ expect_whole() {    # what it is
 expect_next() {     # what it is
     state_of fault | cmp -s - calm.state && return
     cp fault/b before.book
-    run fault/b fault/five.bwa
+    run book fault/b fault/five.bwa
     cmp -s fault/b want.book || fail "$1: the next run does not give the new book"
     if cmp -s before.book want.book; then
         [ $code -eq 1 ] || fail "$1: the file was booked, and the next run does not know it"
@@ -78,7 +78,7 @@ inject_all() {
     while read -r name number must fresh lock; do
         at="$name number $number"
         start_afresh
-        run_injected "$name:error=EIO:when=$number" --roster roster b five.bwa
+        run_injected "$name:error=EIO:when=$number" book --roster roster b five.bwa
         expect_whole "error at $at"
         [ $must = may ] || [ $code -ge 2 ] || fail "error at $at: it goes unnoticed"
         case $name in unlink*) ;; *) expect_tidy fault "error at $at" ;; esac
@@ -86,7 +86,7 @@ inject_all() {
         pass
         case $name in openat | write | close | fsync | fchmod | rename* | unlink*)
             start_afresh
-            run_injected "$name:signal=SIGKILL:when=$number" --roster roster b five.bwa
+            run_injected "$name:signal=SIGKILL:when=$number" book --roster roster b five.bwa
             [ $code -eq 137 ] || fail "killed at $at: exit code $code"
             expect_whole "killed at $at"
             expect_next "killed at $at"
@@ -94,20 +94,20 @@ inject_all() {
         esac
         case $name,$must,$fresh in read,must,* | write,*,fresh)
             start_afresh
-            run_injected "$name:error=EINTR:when=$number" --roster roster b five.bwa
+            run_injected "$name:error=EINTR:when=$number" book --roster roster b five.bwa
             [ $code -eq 0 ] || fail "$at interrupted: exit code $code"
             expect_whole "$at interrupted"
             pass ;;
         esac
         case $name,$fresh in fsync,other)      # a file system that cannot do it for a directory
             start_afresh
-            run_injected "$name:error=EINVAL:when=$number" --roster roster b five.bwa
+            run_injected "$name:error=EINVAL:when=$number" book --roster roster b five.bwa
             expect_code 0 "a directory that cannot be synced"
             expect_whole "a directory that cannot be synced" ;;
         esac
         case $name,$fresh in write,fresh)
             start_afresh
-            run_injected "$name:retval=0:when=$number" --roster roster b five.bwa
+            run_injected "$name:retval=0:when=$number" book --roster roster b five.bwa
             expect_code 2 "$at writes nothing"
             expect_whole "$at writes nothing" ;;
         esac
@@ -117,19 +117,19 @@ inject_all() {
 # A new book that is killed at a rename is there whole or not at all, and can be made then.
 inject_new() {
     rm -rf fault && mkdir fault && cp order.bwa fault
-    run_injected "" --new b order.bwa
+    run_injected "" book --new b order.bwa
     expect_code 0 "a new book, traced"
     list_points | grep '^rename' >renames
     [ "$(wc -l <renames)" -eq 3 ] || fail "a new book takes $(wc -l <renames) names, not 3"
     cp fault/b want_new.book
     while read -r name number must fresh lock; do
         rm -rf fault && mkdir fault && cp order.bwa fault
-        run_injected "$name:signal=SIGKILL:when=$number" --new b order.bwa
+        run_injected "$name:signal=SIGKILL:when=$number" book --new b order.bwa
         expect_code 137 "a new book, killed at $name number $number"
         expect_none fault/b "a new book, killed at $name number $number"
-        run fault/b fault/order.bwa
+        run book fault/b fault/order.bwa
         expect_code 2 "a new book that was not made"
-        run --new fault/b fault/order.bwa
+        run book --new fault/b fault/order.bwa
         expect_code 0 "a new book made after all"
         expect_same fault/b want_new.book "a new book made after all"
     done <renames
@@ -139,11 +139,11 @@ inject_new() {
 inject_answers() {
     start_afresh
     cp many.bwa fault
-    run_injected "" --roster roster b many.bwa
+    run_injected "" book --roster roster b many.bwa
     first=$(list_points | awk '$1 == "write" { print $2; exit }')
     start_afresh
     cp many.bwa fault
-    run_injected "write:error=ENOSPC:when=$first" --roster roster b many.bwa
+    run_injected "write:error=ENOSPC:when=$first" book --roster roster b many.bwa
     expect_code 2 "a part of the answers cannot be printed"
     expect_err "standard output: " "a part of the answers cannot be printed"
     expect_same fault/b calm/b "a part of the answers cannot be printed"
@@ -169,17 +169,17 @@ go_on() { kill -CONT "$stopped"; wait $child; code=$?; child=; }
 two_at_once() {
     # A run that waits before it has the lock must see what another run has saved meanwhile.
     start_afresh
-    start_stopped $(awk '$1 == "openat" && $5 == "lock" { print $1, $2; exit }' points) --roster roster b five.bwa
-    run fault/b fault/six.bwa
+    start_stopped $(awk '$1 == "openat" && $5 == "lock" { print $1, $2; exit }' points) book --roster roster b five.bwa
+    run book fault/b fault/six.bwa
     expect_code 0 "a run while another has no lock yet"
     go_on
     expect_code 0 "a run that gets the lock later"
-    run fault/b
+    run list fault/b
     expect_out "used: 5 of 512 lines, 5 of 1024 slips" "two runs, one after the other"
     # The lock is held until the book is in place.
     start_afresh
-    start_stopped $(awk '$1 == "fsync" { last = this; this = $1 " " $2 } END { print last }' points) --roster roster b five.bwa
-    run fault/b fault/six.bwa
+    start_stopped $(awk '$1 == "fsync" { last = this; this = $1 " " $2 } END { print last }' points) book --roster roster b five.bwa
+    run book fault/b fault/six.bwa
     expect_code 2 "a run while another saves"
     expect_err "another run" "a run while another saves"
     go_on
@@ -206,7 +206,7 @@ expect_next_move() {    # what it is: the move can be made then, and the new boo
         [ $code -eq 0 ] || fail "$1: the next move does not succeed"
         expect_moved "$1, and a next move"
     fi
-    run fault/new fault/two_copies.bwa
+    run book fault/new fault/two_copies.bwa
     [ $code -eq 1 ] && grep -q 'two_copies.bwa: left out' err || fail "$1: the new book does not know its past"
     grep -q 'whole past' err && fail "$1: the new book does not know its whole past"
     pass
@@ -272,12 +272,12 @@ inject_links() {
     run_injected "$unlink:signal=SIGKILL:when=1" --to-new b new
     expect_code 137 "killed while the new book has two names"
     expect_moved "killed while the new book has two names"
-    run fault/new
+    run list fault/new
     expect_code 0 "killed while the new book has two names"
     move_afresh
     run_injected "$unlink:error=EIO:when=1" --to-new b new
     expect_code 0 "a second name that stays"
-    expect_err "cannot remove this second name of the new book" "a second name that stays"
+    expect_err "cannot remove this second name of the new file" "a second name that stays"
     expect_moved "a second name that stays"
     also=
 }
@@ -309,7 +309,7 @@ move_meanwhile() {
     expect_moved "the first of two moves"
     move_afresh
     start_stopped $(awk '$1 == "openat" && $5 == "lock" { print $1, $2; exit }' move_points) --to-new b new
-    run --new fault/new fault/two_copies.bwa
+    run book --new fault/new fault/two_copies.bwa
     cp fault/new before.book
     go_on
     expect_code 2 "a new book is made during a move"
@@ -318,16 +318,16 @@ move_meanwhile() {
     expect_same fault/new before.book "a new book is made during a move"
     # A new book does not replace what comes meanwhile either, and a move needs no lock of its book.
     rm -rf fault && mkdir fault && cp order.bwa fault
-    run_injected "" --new b order.bwa
+    run_injected "" book --new b order.bwa
     list_points >new_points
     rm -rf fault && mkdir fault && cp order.bwa fault
-    start_stopped $(awk '$1 == "fsync" { last = this; this = $1 " " $2 } END { print last }' new_points) --new b order.bwa
+    start_stopped $(awk '$1 == "fsync" { last = this; this = $1 " " $2 } END { print last }' new_points) book --new b order.bwa
     cp notes fault/b
     go_on
     expect_code 2 "somebody's file comes while a book is made"
     expect_same fault/b notes "somebody's file comes while a book is made"
     move_afresh
-    start_stopped $(awk '$1 == "fsync" { last = this; this = $1 " " $2 } END { print last }' points) --roster roster b five.bwa
+    start_stopped $(awk '$1 == "fsync" { last = this; this = $1 " " $2 } END { print last }' points) book --roster roster b five.bwa
     run --to-new fault/b fault/new
     expect_code 0 "a move while a run books into the book"
     expect_same fault/new want_moved "a move while a run books into the book"
@@ -344,9 +344,9 @@ if strace -f -o /dev/null -e trace=getppid -e inject=getppid:error=EIO true 2>/d
     chmod 600 calm/b*
     state_of calm >calm.state
     copy_book calm/b want.book
-    run want.book five.bwa
+    run book want.book five.bwa
     start_afresh
-    run_injected "" --roster roster b five.bwa
+    run_injected "" book --roster roster b five.bwa
     expect_code 0 "a traced run"
     expect_whole "a traced run"
     list_points >points
@@ -365,7 +365,7 @@ if strace -f -o /dev/null -e trace=getppid -e inject=getppid:error=EIO true 2>/d
     inject_all
     mkdir calm_old
     copy_book former.book before_move.book
-    run before_move.book two_copies.bwa
+    run book before_move.book two_copies.bwa
     cp before_move.book want_moved
     run --to-old before_move.book calm_old/b
     cp calm_old/b calm_old/b.old

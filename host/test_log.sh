@@ -6,10 +6,10 @@ for book in day.book schools.book void.book trash.book sixty.book; do
     pass
 done
 lengths="0 1 54 55 56 57 63 64 65 118 119 120 127 128 129 1000"
-run --new digest.book
+run book --new digest.book
 for length in $lengths; do
     printf "%${length}s" '' | tr ' ' 'x' >"length$length"
-    run digest.book "length$length"
+    run book digest.book "length$length"
     grep -q " file $(digest "length$length"), 0 booked, 0 with nothing to book, [01] refused, no roster: length$length\$" digest.book.log ||
         fail "digest of a file of $length bytes: not in the log"
     pass
@@ -20,15 +20,17 @@ grep -q "^20..-..-..T..:..:..Z from $(printf '\0\0\0\0\0' | sha256sum | cut -c 1
 pass
 
 earliest=$(date -u +%Y-%m-%dT%H)
-TZ=XYZ-13 timeout 30 "$host" log.book four.bwa >out 2>err
+TZ=XYZ-13 timeout 30 "$host" book log.book four.bwa >out 2>err
 latest=$(date -u +%Y-%m-%dT%H)
 case $(tail -n 1 log.book.log) in "$earliest"* | "$latest"*) pass ;; *) fail "log: its time is not UTC" ;; esac
 
 # --- damaged, changed and foreign books --------------------------------------------------------------------
 refused_book() {    # the book, what is said, what it is
     cp "$1" kept
-    for files in '' order.bwa; do
-        run "$1" $files
+    for word in list book; do
+        files=order.bwa
+        [ $word = book ] || files=
+        run $word "$1" $files
         expect_code 2 "$3"
         expect_err "$2" "$3"
         expect_not "total" out "$3"
@@ -54,7 +56,7 @@ refused_book lonely.book "there are no digests beside this book" "book without d
 expect_err "--accept-book" "book without digests"
 damaged_accepted() {    # the book, the answer, what it is
     cp "$1" kept
-    run --accept-book "$1" order.bwa
+    run book --accept-book "$1" order.bwa
     expect_code 2 "$3"
     expect_err "answer $2" "$3"
     expect_same "$1" kept "$3"
@@ -70,7 +72,7 @@ done >lines
 damaged_accepted large.book 23 "book of 513 lines, accepted"
 head -c 84486 /dev/zero >long.book
 refused_book long.book "no book is as long as this file" "book that is too long"
-run --accept-book long.book order.bwa
+run book --accept-book long.book order.bwa
 expect_code 2 "book that is too long, accepted"
 expect_err "no book is as long as this file" "book that is too long, accepted"
 
@@ -85,7 +87,7 @@ refused_pairs() {   # what it is; `wanted_err` has the orders that are named
     echo "wizqamul-host: $pairs: answer 22: the book is damaged, or was saved when two orders could share school, supplier and reference; it is left untouched" >>wanted_err
     { head -n 1 first.book.digests; echo "$(digest pairs.book) 2024-02-19T08:00:00Z"; } >pairs.book.digests
     refused_book pairs.book "$(tail -n 1 wanted_err)" "$1"
-    run pairs.book
+    run list pairs.book
     expect_text err wanted_err "$1"
     rm pairs.book.digests
     damaged_accepted pairs.book 22 "$1, accepted"
@@ -101,7 +103,7 @@ near() {            # a line, and others that share a part of its key
 }
 slip='\00224000     VD43210     VD2024022670012345  0001\000\000\004\000'
 { near; printf "$slip"'\000\006\000\001\000'; } >near.book
-run --accept-book near.book
+run book --accept-book near.book
 expect_code 0 "lines that share a part of a key"
 { near; line_of A-17 '12345678     KN'; printf "$slip"'\000\007\000\001\000'; } >pairs.book
 shared A-17 "9783442756841 EN" "12345678 KN" >wanted_err
@@ -121,18 +123,18 @@ for book in half kind; do
 done
 
 # --- a book taken on purpose -----------------------------------------------------------------------------------
-run --accept-book lonely.book
+run book --accept-book lonely.book
 expect_code 0 "accepting without a file"
 expect_err "it is taken on purpose" "accepting without a file"
 expect_same lonely.book first.book "accepting without a file"
-run lonely.book
+run list lonely.book
 expect_code 0 "an accepted book is known"
 expect_silent "an accepted book is known"
-run --accept-book lonely.book
+run book --accept-book lonely.book
 expect_code 0 "accepting a known book"
 expect_silent "accepting a known book"
 cp schools.book lonely.book
-run --accept-book lonely.book four.bwa
+run book --accept-book lonely.book four.bwa
 expect_code 0 "accepting and booking"
 expect_same lonely.book after.book "accepting and booking"
 expect_same lonely.book.old schools.book "accepting and booking"
@@ -140,27 +142,27 @@ expect_same lonely.book.old schools.book "accepting and booking"
 # --- a file whose bytes were booked before -----------------------------------------------------------------------
 put "$X" "$(report 010J)" >monday.bwa
 put "$(report 015N)" >tuesday.bwa
-run --new twice.book monday.bwa
+run book --new twice.book monday.bwa
 copy_book twice.book monday.book
-run twice.book tuesday.bwa
+run book twice.book tuesday.bwa
 expect_code 0 "tuesday"
 cp twice.book tuesday.book
 cp monday.bwa fetched.bwa
-run twice.book fetched.bwa
+run book twice.book fetched.bwa
 expect_code 1 "monday's file once more"
 expect_err "fetched.bwa: left out: these bytes were booked at 20" "monday's file once more"
 expect_out "files booked before, and left out: 1" "monday's file once more"
 expect_same twice.book tuesday.book "monday's file once more"
-timeout 30 "$host" twice.book - <monday.bwa >out 2>err; code=$?
+timeout 30 "$host" book twice.book - <monday.bwa >out 2>err; code=$?
 expect_code 1 "monday's file on standard input"
 expect_same twice.book tuesday.book "monday's file on standard input"
-run twice.book delivery.bwa monday.bwa delivery.bwa
+run book twice.book delivery.bwa monday.bwa delivery.bwa
 expect_code 1 "booked before, between others"
 expect_answers "1 L101 0 10 4 0 6 0" "booked before, between others"
 [ "$(grep -c 'left out' err)" -eq 2 ] || fail "booked before, between others: not both are left out"
 pass
 copy_book twice.book again.book
-run --again again.book monday.bwa
+run book --again again.book monday.bwa
 expect_code 1 "monday's file again"
 expect_answers "1 B101 14
 2 M101 0 10 4 6 0 0" "monday's file again"
@@ -168,44 +170,44 @@ expect_answers "1 B101 14
 # --- an older book put back: what came after it is not in it --------------------------------------------------------
 copy_book twice.book back.book
 cp back.book.old back.book
-run back.book delivery.bwa
+run book back.book delivery.bwa
 expect_code 0 "an older book put back"
 expect_err "they do not count for this book" "an older book put back"
 expect_same back.book twice.book "an older book put back"
-run back.book delivery.bwa
+run book back.book delivery.bwa
 expect_code 1 "and booked again"
 expect_err "left out" "and booked again"
 expect_not "do not count" err "and booked again"
-run back.book tuesday.bwa
+run book back.book tuesday.bwa
 expect_err "left out" "what came before it counts"
 cp monday.book back.book
-run back.book tuesday.bwa
+run book back.book tuesday.bwa
 expect_code 0 "a much older book put back"
 expect_same back.book tuesday.book "a much older book put back"
-run back.book monday.bwa
+run book back.book monday.bwa
 expect_err "left out" "what came before a much older book counts"
-run back.book delivery.bwa
+run book back.book delivery.bwa
 expect_code 0 "what came after a much older book does not count"
 rm back.book
-run --new back.book monday.bwa
+run book --new back.book monday.bwa
 expect_code 0 "a new book after an old one of its name"
 expect_same back.book monday.book "a new book after an old one of its name"
 
 # --- the log is lost, or a book is taken on purpose -----------------------------------------------------------------
 copy_book twice.book lost.book
 rm lost.book.log
-run lost.book tuesday.bwa
+run book lost.book tuesday.bwa
 expect_code 0 "the log is lost"
 expect_err "does not tell this book's whole past" "the log is lost"
 copy_book twice.book taken.book
 cp schools.book taken.book
-run --accept-book taken.book monday.bwa
+run book --accept-book taken.book monday.bwa
 expect_code 1 "a book taken on purpose"
 expect_err "left out" "files count for a book taken on purpose"
 expect_not "whole past" err "a book taken on purpose"
 printf 'damage \000 and no end' >>taken.book.log
 printf 'damage \000 and no end' >>taken.book.digests
-run taken.book five.bwa
+run book taken.book five.bwa
 expect_code 0 "a log and digests with damage at their end"
-run taken.book five.bwa
+run book taken.book five.bwa
 expect_err "left out" "a log and digests with damage at their end"

@@ -36,24 +36,24 @@ echo "moved to the new form: there.book, used: 3 of 512 lines, 1 of 1024 slips" 
 expect_text out wanted "old to new"
 echo "wizqamul-host: $(pwd -P)/there.book: a new book was made" >wanted
 expect_text err wanted "old to new"
-run there.book
+run list there.book
 expect_code 0 "the list of a moved book"
 expect_silent "the list of a moved book"
 expect_list "the list of a moved book" <rows
 moved old_form "new to old" --to-old there.book and_back.book
 echo "moved to the old form: and_back.book, used: 3 of 512 lines, 1 of 1024 slips" >wanted
 expect_text out wanted "new to old"
-run and_back.book
+run list and_back.book
 expect_code 0 "the list of a book moved back"
 expect_list "the list of a book moved back" <rows
 moved new_form "old to new once more" --to-new and_back.book once_more.book
 moved old_form "new to old of a book that was not moved" --to-old new_too.book too.book
 printf '\000\000\000\000\000' >nothing
-run --new hollow.book
+run book --new hollow.book
 moved nothing "an empty book to the new form" --to-new hollow.book hollow_new.book
 moved nothing "an empty book to the old form" --to-old hollow.book hollow_old.book
 moved nothing "an empty book there and back" --to-old hollow_new.book hollow_back.book
-run hollow_old.book order.bwa
+run book hollow_old.book order.bwa
 expect_code 0 "booking into an empty book that was moved"
 expect_not "old form" err "booking into an empty book that was moved"
 { head -c $((512 * 53)) lines; saved_end '\000\002\000\000'; } >brim_old.book
@@ -64,7 +64,7 @@ expect_code 0 "a full book moved"
 pass
 moved brim_old.book "a full book moved back" --to-old brim_new.book brim_back.book
 sed '$d' brim.bwa >brim_silent.bwa
-run --new longest_new.book brim_silent.bwa
+run book --new longest_new.book brim_silent.bwa
 run --to-old longest_new.book longest_old.book
 expect_code 0 "the longest book moved"
 [ "$(wc -c <longest_old.book)" -eq 79365 ] || fail "the longest book moved: its length is $(wc -c <longest_old.book)"
@@ -134,7 +134,7 @@ pass
 
 # --- never over the book that is read, by whatever name -------------------------------------------------
 copy_book former.book read.book
-run read.book two_copies.bwa
+run book read.book two_copies.bwa
 copy_book read.book read_old.book
 cp read.book.old read_old.book
 mkdir -p place
@@ -271,7 +271,7 @@ wrong_move "a move before an option" --to-new --again x.book
 wrong_move "a move behind the book" former.book --to-new x.book
 wrong_move "a move with a roster" --roster roster.txt --to-new former.book x.book
 run --to-newer former.book x.book
-expect_err "usage: wizqamul-host [--new] [--accept-book] [--again] [--roster ROSTER] BOOK [FILE..]" "the usage"
+expect_err "wizqamul-host book [--new] [--accept-book] [--again] [--roster ROSTER] BOOK FILE.." "the usage"
 expect_err "wizqamul-host --to-new BOOK OUT" "the usage"
 expect_err "wizqamul-host --to-old BOOK OUT" "the usage"
 
@@ -301,28 +301,28 @@ rm -f x.book*
 
 # --- the new book goes on where the other stands: files booked before are known ---------------------------
 copy_book former.book past.book
-run past.book two_copies.bwa
+run book past.book two_copies.bwa
 run --to-old past.book past_old.book
 expect_code 0 "a book with a past"
 { cat past.book.log
   echo "WHEN from $(digest past.book | cut -c 1-16) to $(digest past_old.book | cut -c 1-16): a book moved to the other form"; } >wanted
 sed '$s/^20..-..-..T..:..:..Z/WHEN/' past_old.book.log >got
 expect_text got wanted "the log of a book with a past"
-run past_old.book two_copies.bwa
+run book past_old.book two_copies.bwa
 expect_code 1 "a file booked before the move"
 expect_err "two_copies.bwa: left out" "a file booked before the move"
 expect_not "whole past" err "a file booked before the move"
 expect_not "do not count" err "a file booked before the move"
-run past_old.book five.bwa
+run book past_old.book five.bwa
 expect_code 1 "a file booked after the move"
 expect_not "left out" err "a file booked after the move"
 expect_err "$now_new" "a file booked after the move"
 run --to-old past_old.book past_back.book
-run past_back.book five.bwa
+run book past_back.book five.bwa
 expect_err "five.bwa: left out" "files booked before two moves"
-run past_back.book two_copies.bwa
+run book past_back.book two_copies.bwa
 expect_err "two_copies.bwa: left out" "files booked before two moves"
-run past.book five.bwa
+run book past.book five.bwa
 expect_not "left out" err "a file that was booked into the moved book alone"
 # What an earlier book of the name has left counts no more; neither does it stand in the way.
 rm past_old.book
@@ -336,14 +336,14 @@ pass
 printf 'damage and no end' >>past.book.log
 run --to-old past.book torn.book
 expect_code 0 "a log with damage at its end"
-run torn.book two_copies.bwa
+run book torn.book two_copies.bwa
 expect_err "two_copies.bwa: left out" "a log with damage at its end"
 rm past.book.log
 run --to-old past.book logless.book
 expect_code 0 "a book without a log"
 [ "$(wc -l <logless.book.log)" -eq 2 ] || fail "a book without a log: its log has not two lines"
 pass
-run logless.book two_copies.bwa
+run book logless.book two_copies.bwa
 expect_err "does not tell this book's whole past" "a book without a log"
 
 # --- the rights of the book that is read ------------------------------------------------------------------
@@ -362,7 +362,7 @@ for blocks in 0 1; do
     rm -f x.book*
     many 1 40 >forty.bwa
     rm -f forty.book*
-    run --new forty.book forty.bwa
+    run book --new forty.book forty.bwa
     state_of_book forty.book >state
     { (ulimit -f $blocks; "$host" --to-old forty.book x.book; echo "exit $?") | cat >out; } 2>&1 | cat >err
     code=$(sed -n 's/^exit //p' out)

@@ -21,7 +21,7 @@ put 'B10133333     VD14914     VD2015031285601     9783131464712EN0001ST*9999' \
     'L10114914     VD33333     VD20150314982478    000185601     9783131464712EN0001000000000229900LPEUR002500006*1003KIENZLER*1029157600*1030NO*1032EUR*10191*1029126200*1030NO*1032EUR*1029180000*1030LP*1032EUR*11019783131464712-1*1102VB*1151PHY*10192*102931400*1030NO*1032EUR*102949900*1030LP*1032EUR*11019783131464712-2*1102VB*1151DIG*9999' \
     'B101900900    VD24000     VD20170505202020    9783131464712EN0001ST*9999' \
     'L10124000     VD900900    VD2017050624123456  0001202020    9783131464712EN0001000000000229900LPEUR002300006*1003MEIER*90901*904000000000*90430000000000000000*10191*1029126200*1030NO*1032EUR*1029180000*1030LP*1032EUR*11019783131464712-1*1102VB*1151PHY*10192*102931400*1030NO*1032EUR*102949900*1030LP*1032EUR*11019783131464712-2*1102VB*1151DIG*9999' >papers.bwa
-run --new papers.book papers.bwa
+run book --new papers.book papers.bwa
 expect_code 0 "the papers' bundles"
 sed '/^$/,$d' out >got
 cat >wanted <<'ANSWERS'
@@ -36,9 +36,9 @@ papers.bwa:4 L101 0 done | supplier 24000 VD, school 900900 VD, date 20170506, s
 records: 4 booked, 0 with nothing to book, 0 refused
 ANSWERS
 expect_text got wanted "the papers' bundles"
-run papers.book
+run list papers.book
 expect_not "part " out "a list after bundles"
-run --again papers.book papers.bwa
+run book --again papers.book papers.bwa
 expect_answers "1 B101 14
 2 L101 17
 3 B101 14
@@ -47,7 +47,7 @@ expect_not "  part" out "bundles that come again"
 
 # --- one part and eight, digital ones first, each value of each field ---------------------------------
 put "$(order A-17 0100 '' | as "$set_of")" >set.bwa
-run --new set.book set.bwa
+run book --new set.book set.bwa
 eight=$(loop 0 00000 00001 FP b EN DIG; loop 1 00010 00100 LP bb IB PHY; loop 2 00101 01000 FP bbb KN DIG
     loop 0 126250 126205 LP 12345678 UM PHY; loop 1 000000000126200 000000000000099 LP 9783442756841 EN DIG
     loop 2 999999999999999 4294967296 FP b RK DIG; loop 0 1234567890 100000000000000 LP b VB PHY
@@ -56,7 +56,7 @@ put "$(bundle 0001 A-17 "$(loop 2 31400 49900 FP 9783131464712-2 VB DIG)")" \
     "$(bundle 0002 A-17 "$(repeat 16 '*8888')$eight")" \
     "$(bundle 0003 A-17 "$second$first$second")" \
     "$(bundle 0004 A-17 "$(printf '%s' "$first" | sed 's/EUR/CHF/2')$(printf '%s' "$second" | sed 's/EUR/USD/1')")" >some.bwa
-run set.book some.bwa
+run book set.book some.bwa
 expect_code 0 "one part and eight"
 told_parts >got
 cat >wanted <<'PARTS'
@@ -84,7 +84,7 @@ longest=$(printf '%35s' '' | tr ' ' 'x')
 put "$(bundle 0005 A-17 "$(loop 1 10000 20000 LP "$(printf 'B\374ro\2261')" VB PHY; loop 1 10000 20000 LP "$backslashes" VB PHY)")" \
     "$(bundle 0006 A-17 "$(loop 1 10000 20000 LP "$longest" VB PHY; loop 1 10000 20000 LP 'c  ' VB DIG
         loop 1 10000 20000 LP ' ' VB DIG; loop 1 10000 20000 LP ' d' VB DIG)")" >signs.bwa
-run set.book signs.bwa
+run book set.book signs.bwa
 expect_code 0 "articles of parts"
 told_parts | sed 's/^.*, article \(.*\), tax mark .*$/\1/' >got
 printf '%s VB\n' "$(printf 'B\303\274ro\342\200\2231')" "$(repeat 35 '\x5C')" "$longest" c blank ' d' >wanted
@@ -96,7 +96,7 @@ put "$(bundle 0011 A-17 "$(repeat 9 "$small")")" "$(bundle 0012 A-17 "*8888*8888
     "$(bundle 0016 A-17 "$(printf '%s' "$first" | sed 's/1030NO/1030XX/;s/1030LP/1030NO/;s/1030XX/1030LP/')")" \
     "$(bundle 0017 A-17 "$(loop 1 10000 20000 LA b VB PHY)")" "$(bundle 0018 A-17 "${first%\*1151PHY}")" \
     "$(bundle 0019 A-17 "$first*10191")" "$(bundle 0020 A-17 "$(repeat 6 '*8888')$(repeat 9 "$small")")" >untold.bwa
-run set.book untold.bwa
+run book set.book untold.bwa
 expect_code 0 "parts that cannot be told"
 told_parts >got
 { printf '%s\n' "$many_parts"; for record in 12 13 14 15 16 17 18 19; do printf '%s\n' "$broken"; done
@@ -105,7 +105,7 @@ expect_text got wanted "parts that cannot be told"
 expect_out "records: 10 booked, 0 with nothing to book, 0 refused" "parts that cannot be told"
 expect_not "Refused records" out "parts that cannot be told"
 put "$(bundle 0020 A-17 '')" "$(bundle 0007 A-17 "$first*1003MEIER")" >one.bwa
-run set.book one.bwa
+run book set.book one.bwa
 expect_out "bundles booked whose parts cannot be told: 1" "one bundle whose parts cannot be told"
 
 # --- no bundle, and bundles that were not booked: nothing is said of parts ---------------------------
@@ -115,7 +115,7 @@ put "$(bundle 0021 A-17 "$loops" | sed 's/002500006/002500001/')" "$(order A-18 
     "$(bundle 0003 A-17 "$loops")" "$(bundle 0013 A-17 '')" "$(bundle 0003 A-18 "$loops")" \
     "$(bundle 0023 A-99 "$loops")" "$(bundle 0024 A-99 '')" "$(bundle 0025 A-17 "$loops" | sed 's/70012345/        /')" \
     "$(bundle 0026 A-17 "$loops*9")" "$(bundle 0027 A-17 "$(repeat 97 '*8888')")" >without.bwa
-run set.book without.bwa
+run book set.book without.bwa
 expect_code 1 "no bundle, or not booked"
 expect_answers "1 L101 0 100 18 82 0 0
 2 B101 0 1 0 1 0 0
@@ -135,7 +135,7 @@ expect_not "bundles" out "no bundle, or not booked"
 # --- each below its own record, under another article too; counted over all files --------------------
 put "$(order A-30 0004 '')" "$(bundle 0031 A-30 "$first")" "$(bundle 0032 A-30 '')" "$(bundle 0033 A-30 "$second")" >mixed.bwa
 put "$(bundle 0034 A-30 "$first*1003MEIER")" "$(bundle 0032 A-30 '')" "$(delivery 0035 0001)" >later.bwa
-run --new mixed.book mixed.bwa order.bwa later.bwa
+run book --new mixed.book mixed.bwa order.bwa later.bwa
 expect_code 0 "bundles under another article"
 sed '/^$/,$d;s/ | .*//' out >got
 cat >wanted <<ANSWERS
@@ -157,5 +157,5 @@ bundles booked whose parts cannot be told: 2
 ANSWERS
 expect_text got wanted "each below its own record"
 expect_out "another article: ordered as 9783442756841 EN, answered as 9783131464712 EN | ordered 4, filled 1" "bundles under another article"
-run mixed.book
+run list mixed.book
 expect_not "bundles" out "a list after parts that cannot be told"

@@ -17,7 +17,7 @@ put "$(report_on R-1 000J 20240315)" "$(report_on R-2 000J 00000000)" "$(report_
     "$(report_on R-4 007N 00010203)" "$(report_on R-5 015N 00000000)" "$(report_on R-6 099N '')" \
     "$(report_on R-7 100J 99991231)" "$(report_on R-8 999J 20240229)" "$(report_on R-9 010N 20241110)" \
     "$(report_on R-10 999N 10000101)" >>reports.bwa
-run --new reports.book reports.bwa
+run book --new reports.book reports.bwa
 expect_code 0 "reports"
 sed -n '/^School/,/^$/p' out >got
 cat >list <<'LIST'
@@ -55,7 +55,7 @@ expect_text got wanted "the reports themselves"
 
 # --- the book keeps what the reports said: the next run lists the same ---------------------------------
 cp -p reports.book kept
-run reports.book
+run list reports.book
 expect_code 0 "a list in the next run"
 expect_silent "a list in the next run"
 sed -n '/^School/,/^$/p' out >got
@@ -65,7 +65,7 @@ expect_same reports.book kept "a list in the next run"
 # --- a later run: what its reports say stands in place of what was said, all else stays ----------------
 put "$(part_of R-1 0001 0004)" "$(report_on R-2 015J 20240401)" "$(part_of R-4 0002 0010)" "$(part_of R-6 0003 0012)" \
     "$(report_on Z-1 000N '')" "$(report_on R-9 000N 00000000)" "$(part_of R-9 0004 0001)" "$(order Z-2 0003 '')" >tuesday.bwa
-run reports.book tuesday.bwa
+run book reports.book tuesday.bwa
 expect_code 0 "reports of a later run"
 expect_rows "reports of a later run" <<LIST
  24000 VD R-1 10 4 6 J 0 0 000 20240315
@@ -81,10 +81,10 @@ expect_rows "reports of a later run" <<LIST
  24000 VD Z-2 3 0 3 - 0 0 no report yet
 LIST
 cp wanted rows
-run reports.book
+run list reports.book
 expect_code 0 "the run after a later run"
 expect_rows "the run after a later run" <rows
-run --again reports.book tuesday.bwa
+run book --again reports.book tuesday.bwa
 expect_rows "reports booked again" <rows
 
 # --- the last report counts, whatever came before it; all files of a run count as one ------------------
@@ -93,7 +93,7 @@ put "$(report_on L-1 015J 20240315)" "$(report_on L-2 015J '')" "$(report_on L-3
     "$(report_on L-5 015J 20240315)" "$(report_on L-6 015J 20240315)" "$(report_on L-1 022J '')" "$(report_on L-2 022J 20240402)" >>first.bwa
 put "$(report_on L-3 034J 00000000)" "$(report_on L-4 000J 20250630)" "$(part_of L-5 0001 0004)" "$(report_on L-6 015N 20240315)" \
     "$(part_of L-6 0002 0003)" "$(report_on L-3 034J 00000000)" >second.bwa
-run --new last.book first.bwa second.bwa
+run book --new last.book first.bwa second.bwa
 expect_code 0 "the last report"
 expect_rows "the last report" <<'LIST'
  24000 VD L-1 10 0 10 J 0 0 022 no day named
@@ -107,7 +107,7 @@ LIST
 # --- a delivery that fills the line hides it, one that passes it does not; a report after that tells ----
 put "$(part_of L-1 0003 0010)" "$(part_of L-2 0004 0011)" "$(part_of L-3 0005 0011)" "$(report_on L-3 001J 20240505)" \
     "$(report_on L-1 001J 20240505)" "$(report_on L-4 999N '')" >full.bwa
-run last.book full.bwa
+run book last.book full.bwa
 expect_code 0 "reports on full lines"
 expect_rows "reports on full lines" <<LIST
  24000 VD L-2 10 10 0 J 0 1 022 20240402
@@ -123,7 +123,7 @@ expect_out "complete: 1 line " "reports on full lines"
   put "$(report_on S-1 015J 20240315)" "$(report_on S-1 010N 20230229)" "$(report_on S-1 01xN '')" \
     "$(report_on S-9 010N 20240401)" "$(report_on '' 010N 20240401)" "$(report_on S-1 010N 20240401 | sed 's/43210/43212/')" \
     "$(report_on S-1 010X 20240401)" "$(report_on S-1 010N '20240401*99')"; } >single.bwa
-run --new single.book single.bwa
+run book --new single.book single.bwa
 expect_code 1 "refused reports"
 expect_out "records: 5 booked, 0 with nothing to book, 7 refused" "refused reports"
 expect_rows "refused reports" <<'LIST'
@@ -138,21 +138,21 @@ sed 's/015 20240315$/022 no day named/' wanted >rows
 cp -p single.book kept
 cp -p single.book.log kept_log
 put "$(report_on S-1 022J '')" >other.bwa
-run single.book other.bwa
+run book single.book other.bwa
 expect_code 0 "another message"
 expect_rows "another message" <rows
 expect_same single.book.old kept "another message"
 [ "$(wc -l <single.book.log)" -eq $(($(wc -l <kept_log) + 1)) ] || fail "another message: not one line more in the log"
 pass
-run single.book
+run list single.book
 expect_rows "another message, in the next run" <rows
 cp -p single.book kept
 put "$(report_on S-1 022J 20240501)" >another.bwa
-run single.book another.bwa
+run book single.book another.bwa
 expect_code 0 "another day"
 expect_same single.book.old kept "another day"
 sed 's/022 no day named$/022 20240501/' rows >later
-run single.book
+run list single.book
 expect_rows "another day, in the next run" <later
 
 # --- a report that says the same once more leaves the saved book as it is; the log names its file ---------
@@ -160,7 +160,7 @@ cp -p single.book kept
 cp -p single.book.old kept_old
 cp -p single.book.log kept_log
 put "$(report_on S-1 022J 20240501)" "$(report_on S-1 022J 20240501)" >same.bwa
-run single.book same.bwa
+run book single.book same.bwa
 expect_code 0 "the same message"
 expect_same single.book kept "the same message"
 expect_same single.book.old kept_old "the same message"

@@ -11,7 +11,7 @@ silence="no roster was named"
 
 # --- the example day with its roster: the same answers, and the table behind the list ---------
 cp "$parts/../examples/roster.txt" roster.txt
-run --new --roster roster.txt listed.book day.bwa
+run book --new --roster roster.txt listed.book day.bwa
 expect_code 1 "a day with a roster"
 table >got
 cat >wanted <<'TABLE'
@@ -33,7 +33,7 @@ pass
 
 # --- a file with all its liberties, listed alone ------------------------------------------------
 printf '\357\273\277# The desk\r\n43210 VD 20\r\n\r\n \t43211\tVD \t 0000000015\t # second 1\n   \n40017 IB 0#none\rABCDEFGHI9 SA 4294967295 \n#\nZ VD 00000000000000000007' >free.txt
-run --new --roster free.txt none.book
+run book --new --roster free.txt none.book
 expect_code 0 "a new book with a roster"
 expect_not "$silence" err "a new book with a roster"
 rows='  40017 IB                0          0  FULL
@@ -43,14 +43,14 @@ rows='  40017 IB                0          0  FULL
   Z VD                    0          7  7 left
   on the roster: 5 of 64 schools'
 expect_table "$rows" "a new book with a roster"
-run --roster free.txt none.book
+run list --roster free.txt none.book
 expect_code 0 "a roster with all liberties"
 expect_silent "a roster with all liberties"
 expect_table "$rows" "a roster with all liberties"
 cp free.txt "$(printf 'a\033b.txt')"
-run --roster "$(printf 'a\033b.txt')" none.book
+run list --roster "$(printf 'a\033b.txt')" none.book
 expect_out 'the ceilings of a\x1Bb.txt' "the name of a roster"
-run none.book
+run list none.book
 expect_not "Open copies against" out "a list without a roster"
 
 # --- each way to be wrong: nothing is done, and the book stands ---------------------------------
@@ -58,7 +58,7 @@ wrong_roster() {    # what it is; then what is said of the file wrong.txt, line 
     what=$1
     shift
     rm -f wrong.book.lock
-    run --roster wrong.txt wrong.book order.bwa
+    run book --roster wrong.txt wrong.book order.bwa
     expect_code 2 "$what"
     complaints "$@" "wrong.book: nothing was done, since the roster cannot be used" >wanted
     expect_text err wanted "$what"
@@ -104,23 +104,23 @@ printf '\376\377\0004\0003' >wrong.txt
 wrong_roster "UTF-16, turned" "wrong.txt: this is UTF-16 text; save it as UTF-8 or plain text"
 wrong_lines() { awk -v count="$1" 'BEGIN { for (n = 1; n <= count; n++) print n % 2 ? "x" : "43210 VD x" }'; }
 wrong_lines 64 >wrong.txt
-run --roster wrong.txt wrong.book order.bwa
+run book --roster wrong.txt wrong.book order.bwa
 [ "$(grep -c '^wizqamul-host: wrong.txt: line ' err)" -eq 64 ] || fail "64 wrong lines: not all are told"
 expect_not "more lines are wrong" err "64 wrong lines"
 wrong_lines 67 >wrong.txt
-run --roster wrong.txt wrong.book order.bwa
+run book --roster wrong.txt wrong.book order.bwa
 [ "$(grep -c '^wizqamul-host: wrong.txt: line ' err)" -eq 64 ] || fail "67 wrong lines: not the first 64 are told"
 expect_err "wrong.txt: 3 more lines are wrong" "67 wrong lines"
-run --new --roster wrong.txt absent.book order.bwa
+run book --new --roster wrong.txt absent.book order.bwa
 expect_code 2 "a new book with a wrong roster"
 expect_none absent.book "a new book with a wrong roster"
-run --roster wrong.txt wrong.book
+run list --roster wrong.txt wrong.book
 expect_code 2 "a list with a wrong roster"
 expect_not "total" out "a list with a wrong roster"
 
 # --- files that cannot be read --------------------------------------------------------------------
 no_roster() {       # the file; what is said of it
-    run --roster "$1" wrong.book order.bwa
+    run book --roster "$1" wrong.book order.bwa
     expect_code 2 "$1 as a roster"
     expect_err "$1: $2" "$1 as a roster"
     expect_err "wrong.book: nothing was done, since the roster cannot be used" "$1 as a roster"
@@ -134,12 +134,12 @@ done
 { cat free.txt; printf '\n'; head -c 1048576 /dev/zero | tr '\000' '#'; } >huge.txt
 no_roster huge.txt "cannot read to the end: File too large"
 head -c 1048576 huge.txt >large.txt
-run --roster large.txt none.book
+run list --roster large.txt none.book
 expect_code 0 "a very large roster"
 if [ "$clerk" != none ]; then
     cp free.txt shut.txt
     chmod 000 shut.txt
-    run_as_clerk --roster shut.txt none.book
+    run_as_clerk list --roster shut.txt none.book
     expect_code 2 "a roster that may not be read"
     expect_err "shut.txt: cannot open: Permission denied" "a roster that may not be read"
 fi
@@ -149,7 +149,7 @@ schools() { awk -v count="$1" 'BEGIN { print "# schools"; for (n = 1; n <= count
 put "$(order A-1 0001 '' | sed 's/43210/43001/')" "$(order A-1 0064 '' | sed 's/43210/43064/')" \
     "$(order A-2 0001 '' | sed 's/43210/43064/')" >ends.bwa
 schools 64 >most.txt
-run --new --roster most.txt most.book ends.bwa
+run book --new --roster most.txt most.book ends.bwa
 expect_answers "1 B101 0 1 0 1 0 0
 2 B101 0 64 0 64 0 0
 3 B101 25" "64 schools"
@@ -160,7 +160,7 @@ wrong_roster "66 schools" "wrong.txt: there are 66 schools in this file, and a r
 schools 65 >wrong.txt
 wrong_roster "65 schools" "wrong.txt: there are 65 schools in this file, and a roster has at most 64; line 66 has the first one too many"
 { cat most.txt; echo "43001 VD 99"; } >most_twice.txt
-run --roster most_twice.txt most.book
+run list --roster most_twice.txt most.book
 expect_code 1 "64 schools, one of them twice"
 expect_out "on the roster: 64 of 64 schools; lines that do not count: 1" "64 schools, one of them twice"
 
@@ -168,7 +168,7 @@ expect_out "on the roster: 64 of 64 schools; lines that do not count: 1" "64 sch
 printf '43210 VD 12\n43211 VD 15\n43210 VD 100\n43210 IB 3\n43210 VD 0\n' >twice.txt
 put "$(order A-1 0012 '')" "$(order A-2 0001 '')" "$(order A-1 0003 '' | sed 's/43210     VD/43210     IB/')" >twelve.bwa
 put "$(order A-1 0012 '')" >only.bwa
-run --new --roster twice.txt double.book twelve.bwa
+run book --new --roster twice.txt double.book twelve.bwa
 complaints "twice.txt: line 3: 43210 VD with ceiling 100 does not count, since it stands on line 1 already, with ceiling 12" \
     "twice.txt: line 5: 43210 VD with ceiling 0 does not count, since it stands on line 1 already, with ceiling 12" >wanted
 grep -F twice.txt err >got
@@ -180,10 +180,10 @@ expect_table '  43210 IB                3          3  FULL
   43210 VD               12         12  FULL
   43211 VD                0         15  15 left
   on the roster: 3 of 64 schools; lines that do not count: 2' "an account twice"
-run --new --roster twice.txt double2.book only.bwa
+run book --new --roster twice.txt double2.book only.bwa
 expect_out "records: 1 booked, 0 with nothing to book, 0 refused" "an account twice, all booked"
 expect_code 1 "an account twice, all booked"
-run --roster twice.txt double2.book
+run list --roster twice.txt double2.book
 expect_code 1 "an account twice, listed"
 
 # --- 24: the account is not on the roster, for each kind ------------------------------------------------
@@ -207,8 +207,8 @@ put "$(order A-17 0010 '' | slip)" "$(delivery 0001 0004 | slip)" "$(report 010N
     "$(order A-17 0001 '' | sed 's/43210/ABCDE/')" "$(order A-17 0000 '' | slip)" \
     "$(delivery 0001 0004 | slip | sed 's/70012345/        /')" >slip.bwa
 put "$(order A-17 0010 '' | slip)" >slip_order.bwa
-run --new typed.book slip_order.bwa
-run --roster similar.txt typed.book slip.bwa
+run book --new typed.book slip_order.bwa
+run book --roster similar.txt typed.book slip.bwa
 expect_code 1 "not on the roster"
 like="43201 VD is not on the roster; similar there: 43201 IB, 43210 VD, 43211 VD, 93201 VD, 4320 VD, 34201 VD, 432010 VD"
 sed '/^records:/q' out >got
@@ -233,10 +233,10 @@ pass
 
 # --- the slip set right: the file is left out, --again books what was refused -----------------------------
 echo "43201 VD 50" >>similar.txt
-run --roster similar.txt typed.book slip.bwa
+run book --roster similar.txt typed.book slip.bwa
 expect_code 1 "a corrected roster, the file as it was"
 expect_err "left out" "a corrected roster, the file as it was"
-run --again --roster similar.txt typed.book slip.bwa
+run book --again --roster similar.txt typed.book slip.bwa
 expect_answers "1 B101 14
 2 L101 0 10 4 6 0 0
 3 M101 0 10 4 0 6 0
@@ -250,7 +250,7 @@ printf '43210 VD 20\n43211 VD 9999\n43999 SA 5\n40017 VD 0\n' >ceilings.txt
 put "$(order A-1 0010 '')" "$X" "$(order A-3 0001 '')" "$Y" "$(order A-3 0005 '')" "$(order A-3 0004 '')" \
     "$(report 010N)" "$(order A-4 0007 '')" "$(order A-4 0006 '')" "$(report 015J)" "$(order A-5 1234 '')" \
     "$(order A-1 0010 '')" "$(order A-1 9999 '' | sed 's/43210/43211/')" "$(order A-1 0001 '' | sed 's/43210/40017/')" >ceilings.bwa
-run --new --roster ceilings.txt ceilings.book ceilings.bwa
+run book --new --roster ceilings.txt ceilings.book ceilings.bwa
 expect_code 1 "ceilings"
 expect_answers "1 B101 0 10 0 10 0 0
 2 B101 0 10 0 10 0 0
@@ -286,11 +286,11 @@ expect_table '  40017 VD                0          0  FULL
   43211 VD             9999       9999  FULL
   43999 SA                0          5  5 left
   on the roster: 4 of 64 schools' "the table of ceilings"
-run --roster ceilings.txt ceilings.book
+run list --roster ceilings.txt ceilings.book
 expect_code 0 "a school above its ceiling, listed"
 expect_silent "a school above its ceiling, listed"
 printf '43210 VD 25\n43211 VD 10000\n' >changed.txt
-run --roster changed.txt ceilings.book
+run list --roster changed.txt ceilings.book
 expect_table '  43210 VD               26         25  OVER BY 1
   43211 VD             9999      10000  1 left
   on the roster: 2 of 64 schools' "changed ceilings"
@@ -301,15 +301,15 @@ printf '# no school yet\r\n\r\n' >comment.txt
 put "$(delivery 0001 0004 | sed 's/70012345/        /')" >notice.bwa
 for roster in empty.txt comment.txt; do
     copy_book ceilings.book nobody.book
-    run --roster $roster nobody.book notice.bwa
+    run book --roster $roster nobody.book notice.bwa
     expect_code 1 "an empty roster, with nothing to book"
-    run --roster $roster nobody.book order.bwa
+    run book --roster $roster nobody.book order.bwa
     expect_code 1 "an empty roster"
     expect_err "$roster: there is no school in this file: nobody stands on the roster, so no record can be booked" "an empty roster"
     expect_answers "1 B101 24" "an empty roster"
     expect_not "$silence" err "an empty roster"
     expect_same nobody.book ceilings.book "an empty roster"
-    run --roster $roster nobody.book
+    run list --roster $roster nobody.book
     expect_code 1 "an empty roster, listed"
     expect_table '  43210 VD               26          -  NOT ON THE ROSTER
   43211 VD             9999          -  NOT ON THE ROSTER
@@ -318,17 +318,17 @@ done
 
 # --- no roster: it is said where something is booked, and nothing is refused for it ------------------------------
 many 1 512 | sed 's/EN0001ST/EN9999ST/' >most.bwa
-run --new free.book most.bwa
+run book --new free.book most.bwa
 expect_code 0 "no roster"
 expect_out "records: 512 booked" "no roster"
 [ "$(grep -c "free.book: $silence (--roster), so nothing is refused for a school or a ceiling" err)" -eq 1 ] ||
     fail "no roster: it is not said once"
 expect_not "Open copies against" out "no roster"
 tail -n 1 free.book.log | grep -q ' 0 refused, no roster: most.bwa$' || fail "no roster: the log does not say so"
-run free.book
+run list free.book
 expect_not "$silence" err "a list without a roster"
-run --new silent.book
+run book --new silent.book
 expect_not "$silence" err "a new book without a roster"
-run free.book notice.bwa order.bwa
+run book free.book notice.bwa order.bwa
 [ "$(grep -c "$silence" err)" -eq 1 ] || fail "no roster, two files: it is not said once"
 pass

@@ -3,12 +3,12 @@
 # --- rooms that are full or nearly so -----------------------------------------------------------------
 many 1 460 >lines.bwa
 many 461 461 >line.bwa
-run --new full.book lines.bwa
+run book --new full.book lines.bwa
 expect_not "nearly full" err "460 lines"
-run full.book line.bwa
+run book full.book line.bwa
 expect_err "the book is nearly full: 51 of 512 lines are left" "461 lines"
 expect_not "slips" err "461 lines"
-run full.book
+run list full.book
 expect_code 0 "list of 461 lines"
 expect_err "the book is nearly full: 51 of 512 lines are left" "list of 461 lines"
 deliveries() {  # the first position, the last, copies
@@ -17,25 +17,25 @@ deliveries() {  # the first position, the last, copies
 }
 deliveries 1 921 9999 >slips.bwa
 deliveries 922 922 9999 >slip.bwa
-run --new slips.book order.bwa slips.bwa
+run book --new slips.book order.bwa slips.bwa
 expect_code 0 "921 slips"
 expect_not "nearly full" err "921 slips"
-run slips.book slip.bwa
+run book slips.book slip.bwa
 expect_err "the book is nearly full: 102 of 1024 slips are left" "922 slips"
 expect_not "lines" err "922 slips"
 { deliveries 923 1001 9999; deliveries 1002 1026 0001; } >last.bwa
-run slips.book last.bwa
+run book slips.book last.bwa
 expect_code 1 "more than 1024 slips"
 expect_out "last.bwa:79 L101 21 more than 9999999 copies on one line | supplier" "a sum over the limit"
 expect_out "last.bwa:104 L101 19 all slips of the book are used | supplier" "more than 1024 slips"
 expect_out "records: 102 booked, 0 with nothing to book, 2 refused" "more than 1024 slips"
 expect_err "0 of 1024 slips are left" "more than 1024 slips"
 copy_book first.book new.book
-run new.book many.bwa
+run book new.book many.bwa
 expect_code 1 "more orders than lines"
 expect_out "many.bwa:511 B101 0 done" "more orders than lines"
 expect_out "many.bwa:512 B101 15 all lines of the book are used | school" "more orders than lines"
-run new.book
+run list new.book
 expect_code 0 "a full book loads"
 
 # --- saves that fail --------------------------------------------------------------------------------------
@@ -47,7 +47,7 @@ save_failed() {     # what it is; the book is old.book
 }
 copy_book first.book old.book
 for blocks in 0 1; do      # both streams are pipes here, so only the host's files are limited
-    { (ulimit -f $blocks; "$host" old.book many.bwa; echo "exit $?") | cat >out; } 2>&1 | cat >err
+    { (ulimit -f $blocks; "$host" book old.book many.bwa; echo "exit $?") | cat >out; } 2>&1 | cat >err
     code=$(sed -n 's/^exit //p' out)
     save_failed "file size limit $blocks"
     [ "$(grep -v '^exit' out | tail -n 1)" = "nothing was saved: the book stands as it was before this run" ] ||
@@ -57,23 +57,23 @@ for blocks in 0 1; do      # both streams are pipes here, so only the host's fil
 done
 put "$(order A-1 0001 '')" "$(order A-2 0001 '')" >pair.bwa
 rm -f after.out
-{ (ulimit -f 1; "$host" --new limit.book pair.bwa >after.out; echo "exit $?") | cat >out; } 2>&1 | cat >err
+{ (ulimit -f 1; "$host" book --new limit.book pair.bwa >after.out; echo "exit $?") | cat >out; } 2>&1 | cat >err
 code=$(sed -n 's/^exit //p' out)
 expect_code 3 "standard output that is full after the save"
 expect_err "standard output: cannot write: File too large" "standard output that is full after the save"
 expect_err "limit.book: the book is saved" "standard output that is full after the save"
-run limit.book
+run list limit.book
 expect_out "used: 2 of 512 lines" "standard output that is full after the save"
 if [ -c /dev/full ]; then
-    timeout 30 "$host" old.book many.bwa >/dev/full 2>err; code=$?
+    timeout 30 "$host" book old.book many.bwa >/dev/full 2>err; code=$?
     save_failed "full standard output"
     expect_err "standard output:" "full standard output"
-    timeout 30 "$host" old.book >/dev/full 2>err; code=$?
+    timeout 30 "$host" list old.book >/dev/full 2>err; code=$?
     expect_code 2 "list to a full standard output"
 fi
 mkfifo gone
 exec 5<>gone 6>gone 5>&-       # a pipe that nobody reads
-timeout 30 "$host" old.book many.bwa >&6 2>err; code=$?
+timeout 30 "$host" book old.book many.bwa >&6 2>err; code=$?
 exec 6>&-
 save_failed "standard output that nobody reads"
 expect_err "Broken pipe" "standard output that nobody reads"
@@ -88,13 +88,13 @@ mkdir names
 copy_book schools.book names/book
 cd names || exit 1
 cp ../four.bwa .
-run_with_names "1 2 3 4 6" book four.bwa
+run_with_names "1 2 3 4 6" book book four.bwa
 expect_code 0 "names of new files that are taken"
 [ "$(cat .wizqamul-new-*-[12346] | sort | uniq -c | sed 's/^ *//')" = "5 mine" ] || fail "names of new files that are taken: lost"
 expect_same book ../after.book "names of new files that are taken"
 rm -f .wizqamul*
 copy_book ../schools.book book
-run_with_names "$(seq 0 999)" book four.bwa
+run_with_names "$(seq 0 999)" book book four.bwa
 expect_code 2 "all names of new files taken"
 expect_err "cannot make a new file: File exists" "all names of new files taken"
 [ "$(cat .wizqamul-new-* | sort | uniq -c | sed 's/^ *//')" = "1000 mine" ] || fail "all names of new files taken: lost"
@@ -106,7 +106,7 @@ round=0
 while [ $round -lt 10 ]; do
     rm -f killed.book*
     copy_book first.book killed.book
-    "$host" killed.book many.bwa >/dev/null 2>&1 & child=$!
+    "$host" book killed.book many.bwa >/dev/null 2>&1 & child=$!
     moment=0
     while [ $moment -lt $((round * 600)) ]; do moment=$((moment + 1)); done
     kill -9 $child 2>/dev/null
@@ -117,7 +117,7 @@ while [ $round -lt 10 ]; do
     round=$((round + 1))
 done
 pass
-run killed.book many.bwa
+run book killed.book many.bwa
 expect_code 1 "run after a killed run"
 expect_same killed.book new.book "run after a killed run"
 rm -f .wizqamul*
@@ -126,14 +126,14 @@ rm -f .wizqamul*
 # The first run prints more than a pipe holds, so it waits while it holds the lock.
 mkfifo pipe
 copy_book first.book shared.book
-timeout 30 "$host" shared.book many.bwa >pipe 2>first.err & child=$!
+timeout 30 "$host" book shared.book many.bwa >pipe 2>first.err & child=$!
 exec 4<pipe
 head -c 1 <&4 >/dev/null
-run shared.book four.bwa
+run book shared.book four.bwa
 expect_code 2 "book in use"
 expect_err "another run is booking into this book" "book in use"
 expect_same shared.book first.book "book in use"
-run shared.book
+run list shared.book
 expect_code 0 "list of a book in use"
 cat <&4 >/dev/null
 exec 4<&-

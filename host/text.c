@@ -2,6 +2,7 @@
 #include "text.h"
 
 #include <errno.h>
+#include <stdlib.h>
 #include <string.h>
 
 #define UTF_8_MARK "\xEF\xBB\xBF"
@@ -13,7 +14,8 @@ enum {
     FIRST_WINDOWS = 128, FIRST_LATIN = 160,     /* from here on a byte is its own letter */
     FIRST_LEADING = 0xC2, LAST_LEADING = 0xF4,  /* bytes that UTF-8 letters begin with */
     FOLLOWING = 0x80, FOLLOWING_MASK = 0xC0, FOLLOWING_BITS = 6,
-    BYTE_ROOM = 5,                              /* \xNN, and the end */
+    ESCAPE_WIDTH = 4,                           /* \xNN */
+    BYTE_ROOM = ESCAPE_WIDTH + 1,               /* a byte as text, and the end */
     FIRST_SURROGATE = 0xD800, LAST_SURROGATE = 0xDFFF, LAST_LETTER = 0x10FFFF
 };
 
@@ -146,6 +148,24 @@ void print_name(FILE *to, const char *name)
             fprintf(to, "\\x%02X", (unsigned)(unsigned char)*name++);
         }
     }
+}
+
+char *name_printed(const char *text, size_t length)
+{
+    char *name = malloc(length + 1);
+    size_t at = 0;
+    for (size_t i = 0; name != NULL && i < length; at++) {
+        unsigned byte = (unsigned char)text[i];
+        if (byte == '\\' && length - i >= ESCAPE_WIDTH &&
+            sscanf(text + i, "\\x%2X", &byte) == 1)
+            i += ESCAPE_WIDTH;
+        else
+            i++;
+        name[at] = (char)byte;
+    }
+    if (name != NULL)
+        name[at] = '\0';
+    return name;
 }
 
 static int begins_with(const uint8_t *text, const char *mark)

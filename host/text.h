@@ -29,6 +29,9 @@ void print_padded(const char *text, size_t letters);
 /* A name of a file: ASCII and UTF-8 letters as they are, all else as \xNN. */
 void print_name(FILE *to, const char *name);
 
+/* The name that was printed so; free() gives it back, NULL where there is not enough memory. */
+char *name_printed(const char *text, size_t length);
+
 int is_digit(uint8_t byte);
 
 /* Whether Windows-1252 has a sign for a byte; a control sign is none. */

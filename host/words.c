@@ -257,12 +257,11 @@ static void print_booked(FILE *to, const struct record *record, const wq_booked 
             booked->still_open, booked->let_go, booked->extra);
 }
 
-void print_answer(FILE *to, const char *name, unsigned long number, const struct record *record,
-                  const wq_booked *booked, const struct book *book)
+void print_outcome(FILE *to, const struct record *record, const wq_booked *booked,
+                   const struct book *book)
 {
     int known = booked->answer != WQ_TOO_LONG && booked->answer != WQ_UNKNOWN_KIND;
-    print_name(to, name);
-    fprintf(to, ":%lu %.*s %" PRIu64 " %s", number, known ? WQ_KIND_WIDTH : 1,
+    fprintf(to, "%.*s %" PRIu64 " %s", known ? WQ_KIND_WIDTH : 1,
             known ? (const char *)record->bytes : "?", booked->answer, words_for(booked->answer));
     if (booked->answer != WQ_DONE && booked->answer <= WQ_GROUP)
         print_fault(to, record, booked);
@@ -278,5 +277,13 @@ void print_answer(FILE *to, const char *name, unsigned long number, const struct
         print_ceiling_passed(to, record, book);
     else if (booked->answer == WQ_DONE)
         print_booked(to, record, booked, book);
+}
+
+void print_answer(FILE *to, const char *name, unsigned long number, const struct record *record,
+                  const wq_booked *booked, const struct book *book)
+{
+    print_name(to, name);
+    fprintf(to, ":%lu ", number);
+    print_outcome(to, record, booked, book);
     fputc('\n', to);
 }
