@@ -15,7 +15,7 @@ enum {
     FIRST_LEADING = 0xC2, LAST_LEADING = 0xF4,  /* bytes that UTF-8 letters begin with */
     FOLLOWING = 0x80, FOLLOWING_MASK = 0xC0, FOLLOWING_BITS = 6,
     ESCAPE_WIDTH = 4,                           /* \xNN */
-    BYTE_ROOM = ESCAPE_WIDTH + 1,
+    BYTE_ROOM = ESCAPE_WIDTH + 1,               /* a byte as text, and the end */
     FIRST_SURROGATE = 0xD800, LAST_SURROGATE = 0xDFFF, LAST_LETTER = 0x10FFFF
 };
 

@@ -1,5 +1,6 @@
 /* Reading the wish list: its encoding, its header, its rows. */
 #include "wishes.h"
+#include "wish_fields.h"
 
 #include <string.h>
 
@@ -12,21 +13,9 @@ enum {
     NOTE_ROOM = 4 * SHOWN + 160
 };
 
-/* The columns of fixed fields; some must be there. */
-static const struct { const char *name; int needed; } fixed_columns[WISH_FIXED_FIELDS] = {
-    {"school", 1}, {"school qualifier", 0}, {"supplier", 1}, {"supplier qualifier", 0},
-    {"date", 0}, {"reference", 1}, {"article", 1}, {"article qualifier", 0}, {"quantity", 1},
-    {"measure", 0}
-};
-
 #define WHAT_IS_KNOWN "known are school, school qualifier, supplier, supplier qualifier, date, " \
     "reference, article, article qualifier, quantity, measure, and optional fields by four " \
     "digits, 0000 to 9998; a name that begins with # is passed over"
-
-const char *wish_field_name(enum wish_field field)
-{
-    return fixed_columns[field].name;
-}
 
 int is_blank_in_cell(uint8_t byte)
 {
@@ -278,7 +267,7 @@ static void say_column(const struct wish_list *list, unsigned long line, size_t 
 static enum wish_field field_named(const struct cell *name)
 {
     int field = 0;
-    while (field < WISH_FIXED_FIELDS && !has_name(name, fixed_columns[field].name))
+    while (field < WISH_FIXED_FIELDS && !has_name(name, fixed_fields[field].name))
         field++;
     return field;
 }
@@ -327,10 +316,10 @@ static int none_is_missing(const struct wish_list *list, unsigned long line)
     char note[NOTE_ROOM];
     int fine = 1;
     for (int i = 0; i < WISH_FIXED_FIELDS; i++) {
-        if (!fixed_columns[i].needed || list->places[i] < MOST_COLUMNS)
+        if (!fixed_fields[i].needed || list->places[i] < MOST_COLUMNS)
             continue;
         snprintf(note, sizeof note, "line %lu: the column %s is missing", line,
-                 fixed_columns[i].name);
+                 fixed_fields[i].name);
         complain(list->name, note);
         fine = 0;
     }

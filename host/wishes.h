@@ -74,9 +74,6 @@ int wish_list_next(struct wish_list *list, struct wish *wish);
 
 void wish_list_leave(struct wish_list *list);
 
-/* The name of the column of a fixed field. */
-const char *wish_field_name(enum wish_field field);
-
 /* A blank in a cell: a space, a tab or a no-break space. */
 int is_blank_in_cell(uint8_t byte);
 
