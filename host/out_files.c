@@ -172,7 +172,12 @@ static int collect(DIR *listed, const char *head, struct names *names)
     return errno == 0;
 }
 
-/* The names of all files that wait of a run; returns 0, and has said why, where it cannot. */
+static int compare_names(const void *one, const void *other)
+{
+    return strcmp(*(char *const *)one, *(char *const *)other);
+}
+
+/* The names of all files that wait of a run, in order; returns 0, and has said why, where it cannot. */
 static int find_waiting(int directory, const struct waiting *waiting, const char *head,
                         struct names *names)
 {
@@ -185,6 +190,8 @@ static int find_waiting(int directory, const struct waiting *waiting, const char
         closedir(listed);
     else if (open >= 0)
         close(open);
+    if (names->count > 0)
+        qsort(names->start, names->count, sizeof *names->start, compare_names);
     return found;
 }
 

@@ -30,12 +30,6 @@ cp out wanted
 run list round.book
 expect_text out wanted "the orders of the day, booked elsewhere"
 expect_silent "a list after the orders are out"
-run book --roster roster.txt round.book answers.bwa
-expect_code 0 "the answers of the day"
-run list round.book --by supplier
-expect_code 0 "the chase list of the day"
-expect_text out "$parts/test_chase.txt" "the chase list of the day"
-
 # --- the log, and the same wishes again -------------------------------------------------------------------------
 sed -n 's/^.\{20\} from \([0-9a-z]*\) to \([0-9a-f]*\): orders [0-9a-f]\{16\} /\1 \2 /p' round.book.log >got
 printf '%s\n' "$book $book wait in $work/out_day" "$book $book are out" >wanted
@@ -58,11 +52,20 @@ expect_out "wishes: 0 ordered, 7 refused" "wishes once more"
 expect_out "wishes.csv:4 refused: B101 14" "wishes once more"
 [ "$(ls -A out_day | wc -l)" -eq 2 ] || fail "wishes once more: a file came out"
 expect_same round.book kept_round.book "wishes once more"
-# A refused wish is ordered when the list is right: a new file, and the old ones stay.
+
+# --- the answers come, and the chase list -----------------------------------------------------------------------
+run book --roster roster.txt round.book answers.bwa
+expect_code 0 "the answers of the day"
+run list round.book --by supplier
+expect_code 0 "the chase list of the day"
+expect_text out "$parts/test_chase.txt" "the chase list of the day"
+
+# --- a mended list: what was refused is ordered, into a file of its own ------------------------------------------
 sed 's/^43211;24000;;A-19;20240219;9783442756842/43211;24000;;A-19;20240219;9783442756841/' wishes.csv >mended.csv
 run order --roster roster.txt round.book mended.csv out_day
 expect_code 1 "a mended wish list"
-expect_out "wishes: 1 ordered, 6 refused" "a mended wish list"
+expect_out "wishes: 2 ordered, 5 refused" "a mended wish list"
+expect_out "mended.csv:8 B101 0 done" "a wish that the ceiling takes after a delivery"
 [ "$(ls out_day | wc -l)" -eq 3 ] || fail "a mended wish list: no file of its own"
 pass
 
