@@ -104,7 +104,7 @@ copy_book() {
     done
 }
 
-for part in answers articles reports list parts roster text files log forms moves rights runs faults; do
+for part in answers articles reports list parts roster text files log forms moves rights runs words wishes order faults kills; do
     . "$parts/test_$part.sh"
 done
 echo "host: $passed checks passed"

@@ -44,8 +44,10 @@ run --again plain.book
 expect_err "so it is listed" "an option that has nothing to do"
 
 # --- a book that is named as a word ------------------------------------------------------------------------------
+mkdir named
+for word in book list order; do copy_book open.book named/$word; done
+cd named || exit 1
 for word in book list order; do
-    copy_book open.book $word
     run $word
     expect_code 2 "a word alone"
     expect_err "usage:" "a word alone"
@@ -54,8 +56,8 @@ for word in book list order; do
     run ./$word
     expect_code 0 "a book named $word, without a word"
     expect_err "./$word: no word says what to do" "a book named $word, without a word"
-    rm -f $word*
 done
+cd .. || exit 1
 
 # --- options stand before the names, behind them or between them ---------------------------------------------------
 copy_book word.book between.book
