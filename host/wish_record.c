@@ -10,7 +10,6 @@ enum {
     SHOWN = 40          /* bytes of a cell that are shown */
 };
 
-#define NOT_ALLOWED " is not what it may hold: %s"
 #define TWO_CAPITALS "two capital letters"
 
 /* An order while it is made of a wish. */
@@ -139,28 +138,6 @@ static void print_column(const struct draft *draft, size_t column)
         fprintf(draft->why, "column %04u: ", named->id);
 }
 
-/* Begins a reason with the column of a fixed field and what stands there. */
-static void print_fixed(const struct draft *draft, enum wish_field field)
-{
-    struct cell cell = cell_of(draft, field);
-    fprintf(draft->why, "column %s: ", fixed_fields[field].name);
-    print_cell(draft->why, &cell);
-}
-
-/* Refuses a fixed field. Before a wrong qualifier no article is right, so that is to blame. */
-static int refuse_fixed(const struct draft *draft, enum wish_field field)
-{
-    struct cell qualifier = cell_of(draft, WISH_ARTICLE_QUALIFIER);
-    const char *may_hold = fixed_fields[field].may_hold;
-    if (field == WISH_ARTICLE)
-        may_hold = article_may_hold(&qualifier);
-    if (may_hold == NULL)
-        return refuse_fixed(draft, WISH_ARTICLE_QUALIFIER);
-    print_fixed(draft, field);
-    fprintf(draft->why, NOT_ALLOWED, may_hold);
-    return 0;
-}
-
 /* The place of a byte that is no sign, or the cell's length. */
 static size_t place_of_no_sign(const struct cell *cell)
 {
@@ -170,25 +147,45 @@ static size_t place_of_no_sign(const struct cell *cell)
     return at;
 }
 
-/* Refuses a cell for its letters. */
-static int letters_are_fine(const struct draft *draft, size_t column, const struct cell *cell)
+/* Ends a reason: what stands in a cell, and what it may hold. A byte that is no sign may stand in
+   none, and is told by itself. */
+static void print_not_allowed(const struct draft *draft, const struct cell *cell,
+                              const char *may_hold)
 {
     size_t place = place_of_no_sign(cell);
-    unsigned long letter;
-    if (cell->foreign[0] != '\0') {
-        letter_length(cell->foreign, &letter);
-        print_column(draft, column);
-        fputs("the letter ", draft->why);
-        print_name(draft->why, cell->foreign);
-        fprintf(draft->why, " (U+%04lX) is not one of Windows-1252", letter);
-        return 0;
-    }
-    if (place == cell->length)
-        return 1;
-    print_column(draft, column);
     print_cell(draft->why, cell);
-    fprintf(draft->why, " holds the byte \\x%02X, which is no letter or sign",
-            (unsigned)cell->start[place]);
+    if (place < cell->length)
+        fprintf(draft->why, " holds the byte \\x%02X, which is no letter or sign",
+                (unsigned)cell->start[place]);
+    else
+        fprintf(draft->why, " is not what it may hold: %s", may_hold);
+}
+
+/* Refuses a fixed field. Before a wrong qualifier no article is right, so that is to blame. */
+static int refuse_fixed(const struct draft *draft, enum wish_field field)
+{
+    struct cell cell = cell_of(draft, field), qualifier = cell_of(draft, WISH_ARTICLE_QUALIFIER);
+    const char *may_hold = fixed_fields[field].may_hold;
+    if (field == WISH_ARTICLE)
+        may_hold = article_may_hold(&qualifier);
+    if (may_hold == NULL)
+        return refuse_fixed(draft, WISH_ARTICLE_QUALIFIER);
+    fprintf(draft->why, "column %s: ", fixed_fields[field].name);
+    print_not_allowed(draft, &cell, may_hold);
+    return 0;
+}
+
+/* Refuses a letter that has no byte. */
+static int letters_are_fine(const struct draft *draft, size_t column, const struct cell *cell)
+{
+    unsigned long letter;
+    if (cell->foreign[0] == '\0')
+        return 1;
+    letter_length(cell->foreign, &letter);
+    print_column(draft, column);
+    fputs("the letter ", draft->why);
+    print_name(draft->why, cell->foreign);
+    fprintf(draft->why, " (U+%04lX) is not one of Windows-1252", letter);
     return 0;
 }
 
@@ -209,9 +206,7 @@ static int cell_is_fine(const struct draft *draft, size_t column)
         fputs(" stands under no name; the header has to name the column", draft->why);
         return 0;
     }
-    if (field > WISH_OPTIONAL || trimmed.length == 0)
-        return 1;
-    return letters_are_fine(draft, column, field == WISH_OPTIONAL ? cell : &trimmed);
+    return field > WISH_OPTIONAL || letters_are_fine(draft, column, cell);
 }
 
 static int cells_are_fine(const struct draft *draft)
@@ -239,6 +234,7 @@ static uint8_t *place_of(struct draft *draft, enum wish_field field)
 /* Fills the qualifier of the article, which its cell does not name. */
 static int tell_qualifier(struct draft *draft)
 {
+    struct cell article = cell_of(draft, WISH_ARTICLE);
     const char *untold;
     const char *qualifier = article_qualifier(place_of(draft, WISH_ARTICLE), &untold);
     if (qualifier != NULL) {
@@ -247,7 +243,8 @@ static int tell_qualifier(struct draft *draft)
     }
     if (untold == NULL)
         return refuse_fixed(draft, WISH_ARTICLE);
-    print_fixed(draft, WISH_ARTICLE);
+    fprintf(draft->why, "column %s: ", fixed_fields[WISH_ARTICLE].name);
+    print_cell(draft->why, &article);
     fprintf(draft->why, " %s", untold);
     return 0;
 }
@@ -330,12 +327,10 @@ static void refuse_optional(const struct draft *draft, size_t field, uint64_t an
     size_t column = draft->columns[field];
     unsigned id = draft->list->columns[column].id;
     print_column(draft, column);
-    if (answer == WQ_GROUP) {
+    if (answer == WQ_GROUP)
         print_group(draft, id);
-        return;
-    }
-    print_cell(draft->why, &draft->wish->cells[column]);
-    fprintf(draft->why, NOT_ALLOWED, content_words(id));
+    else
+        print_not_allowed(draft, &draft->wish->cells[column], content_words(id));
 }
 
 /* The reason for the answer of wq_write. */
