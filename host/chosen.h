@@ -16,10 +16,10 @@ struct choice {
     int csv;                    /* --csv: a table for a spreadsheet */
 };
 
-/* A line that is listed. Its accounts stand first as they group it: that of its group, and right
-   behind it the other one, of which the row tells. */
+/* A line that is listed. Its key is that of the book, but with the account of its group first,
+   and right behind it the other one, of which its row tells. */
 struct listed {
-    uint8_t key[WQ_LINE_KEY_WIDTH];     /* both accounts and the reference; sorted by it */
+    uint8_t key[WQ_LINE_KEY_WIDTH];     /* the lines are sorted by it */
     const uint8_t *line;                /* its entry in the book */
     wq_told figures;
 };
