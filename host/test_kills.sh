@@ -5,7 +5,7 @@
 # The directory `calm_orders` has a book o, a wish list for two suppliers and an empty out;
 # `want_out` and want_o are the files and the book that the run gives.
 orders_afresh() { rm -rf fault && cp -rp calm_orders fault; }
-order_wishes() { { (cd fault && timeout 30 "$host" order --roster roster o wishes.csv out >../out 2>../err); code=$?; } 2>/dev/null; }
+order_once() { { (cd fault && timeout 30 "$host" order --roster roster o wishes.csv out >../out 2>../err); code=$?; } 2>/dev/null; }
 order_injected() { run_injected "$1" order --roster roster o wishes.csv out; }
 waiting_run() { sed -n 's/.*: orders \([0-9a-f]*\) wait in .*/\1/p' fault/o.log | tail -n 1; }
 
@@ -45,12 +45,12 @@ expect_finished() {         # what it is
 expect_again() {            # what it is
     before=new
     cmp -s fault/o want_o || before=old
-    order_wishes
+    order_once
     case $before,$code in old,0 | new,1) ;; *) fail "$1: the same command again, with the $before book: exit code $code" ;; esac
     expect_finished "$1"
     cp fault/o.log kept.log
     ls -A fault/out >kept.names
-    order_wishes
+    order_once
     [ $code -eq 1 ] || fail "$1: the same command a third time: exit code $code"
     expect_finished "$1, a third time"
     ls -A fault/out | cmp -s - kept.names && cmp -s fault/o.log kept.log || fail "$1: a third time something changes"
@@ -134,11 +134,21 @@ orders_that_wait() {
     [ "$(ls -A fault/elsewhere | wc -l)" -eq 1 ] || fail "an order after others were put out late: not out"
     run list fault/o
     expect_code 0 "a list after all orders are out"
+    # The log names the directory, whatever its name holds.
+    odd=$(printf 'o\\x41 d\303\244\377\n: orders')
+    orders_afresh
+    mkdir "fault/$odd"
+    run_injected "$put_out:signal=SIGKILL" order --roster roster o wishes.csv "$odd"
+    expect_code 137 "killed before the orders are out in an odd directory"
+    order_once
+    expect_code 1 "orders in an odd directory, put out late"
+    diff -r "fault/$odd" want_out >/dev/null || fail "orders in an odd directory are not those"
+    [ -z "$(ls -A fault/out)" ] || fail "orders in an odd directory come out elsewhere"
     # Files that somebody put out by hand are not missed.
     orders_afresh
     order_injected "$put_out:signal=SIGKILL"
     for wait in fault/out/.wizqamul*; do mv "$wait" "fault/out/${wait#fault/out/.wizqamul-wait-????????????????-}"; done
-    order_wishes
+    order_once
     expect_code 1 "orders that were put out by hand"
     expect_err "none is left here that waits" "orders that were put out by hand"
     expect_finished "orders that were put out by hand"
@@ -149,7 +159,7 @@ orders_that_wait() {
     run list fault/o
     expect_code 0 "a book that was taken back while orders waited"
     sed -i 's/A-1/B-1/' fault/wishes.csv
-    order_wishes
+    order_once
     expect_code 0 "orders of a book that was taken back"
     ! grep -q 'A-1 ' fault/out/*.bwa || fail "orders that were taken back are out"
 }
@@ -210,7 +220,7 @@ copy_book kept.book calm_orders/o
 echo "43210 VD 600" >calm_orders/roster
 printf 'school;supplier;reference;date;article;quantity\n43210;24000;A-1;20240219;9783442756841;10\n43210;BUCH2;A-1;20240219;9783442756841;5\n43210;24000;A-2;20240219;3442756847;3\n' >calm_orders/wishes.csv
 orders_afresh
-order_wishes
+order_once
 expect_code 0 "orders, undisturbed"
 cp fault/o want_o
 cp -rp fault/out want_out

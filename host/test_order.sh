@@ -120,14 +120,13 @@ cp back.book.old back.book
 cp -r out_back kept_back
 run order back.book other.csv out_back
 expect_code 2 "orders that were put out before the book was taken back"
-expect_err "these orders were put out before, as it seems" "orders that were put out before the book was taken back"
-expect_err "24000-VD-$book.bwa: is in the way" "orders that were put out before the book was taken back"
+expect_err "24000-VD-$book.bwa: there is such a file of orders already, from before the book was taken back" "orders that were put out before the book was taken back"
 expect_same back.book plain_round.book "orders that were put out before the book was taken back"
 diff -r out_back kept_back >/dev/null || fail "orders that were put out before: files changed"
 rm out_back/24000-*
 run order back.book other.csv out_back
 expect_code 2 "one of these orders was put out before"
-expect_err "BUCH2-VD-$book.bwa: is in the way" "one of these orders was put out before"
+expect_err "BUCH2-VD-$book.bwa: there is such a file of orders already" "one of these orders was put out before"
 [ "$(ls -A out_back | wc -l)" -eq 1 ] || fail "one of these orders was put out before: a file came out"
 rm out_back/*
 run order back.book other.csv out_back
@@ -166,6 +165,23 @@ if [ "$clerk" != none ]; then
     expect_same desk_out/book plain_round.book "a directory that may not be written"
     chmod 755 shut_out
 fi
+if [ -c /dev/full ]; then
+    timeout 30 "$host" order place.book back.csv wrong_out >/dev/full 2>err; code=$?
+    expect_code 2 "answers that cannot be printed"
+    expect_err "standard output: " "answers that cannot be printed"
+    expect_same place.book plain_round.book "answers that cannot be printed"
+    [ -z "$(ls -A wrong_out)" ] || fail "answers that cannot be printed: a file came out"
+fi
+# Out may be the directory of the book; its own name may be odd.
+for odd in . "$(printf 'o\\x41 d\303\244\377\n: orders')"; do
+    [ -e "$odd" ] || mkdir "$odd"
+    copy_book plain_round.book place.book
+    run order place.book back.csv "$odd"
+    expect_code 0 "an odd directory"
+    [ -s "$odd/24000-VD-$book.bwa" ] || fail "an odd directory: no file"
+    rm "$odd"/*-VD-$book.bwa
+done
+copy_book plain_round.book place.book
 (umask 027; timeout 30 "$host" order place.book back.csv wrong_out >out 2>err)
 expect_mode wrong_out/24000-VD-$book.bwa "-rw-r-----" "the rights of a file of orders"
 rm -f wrong_out/*
