@@ -22,7 +22,7 @@
  *   --roster ROSTER   books for the schools of this file alone (see roster.h), up to their
  *                     ceilings, and lists open copies against them
  *   --open, --school A, --supplier A, --by school|supplier, --csv
- *                     which lines are listed, and how (see listing.h)
+ *                     which lines are listed, and how (see chosen.h)
  * The two moves stand alone: no option goes with them. They leave BOOK and what stands beside it
  * as they are, and make a book OUT that is not there yet (see moving.h).
  *
