@@ -158,6 +158,11 @@ orders_that_wait() {
     expect_err "$wait: cannot read this file of orders that waits" "a link that waits"
     [ -z "$(ls fault/out)" ] || fail "a link that waits: it is out"
     rm "fault/out/$wait"
+    cp -rp fault kept_fault
+    mkfifo "fault/out/$wait"
+    run order fault/o fault/more.csv fault/elsewhere
+    [ $code -ne 124 ] || fail "a pipe that waits holds up an order"
+    rm -rf fault && mv kept_fault fault
     cp kept.wait "fault/out/$wait"
     # A directory that cannot be read may hold orders that wait.
     run_injected "getdents64:error=EIO:when=1" order o more.csv elsewhere
