@@ -151,6 +151,15 @@ inject_answers() {
     expect_same fault/b calm/b "a part of the answers cannot be printed"
 }
 
+# Where the group of a book cannot be kept, another group may do what everybody may.
+inject_group() {
+    start_afresh
+    chmod 664 fault/b
+    run_injected "fchown:error=EPERM" book --roster roster b five.bwa
+    expect_code 0 "a group that cannot be kept"
+    expect_mode fault/b "-rw-r--r--" "a group that cannot be kept"
+}
+
 # Starts a run that stops at a call, and waits until it has stopped.
 start_stopped() {   # the call and its number; then the arguments
     inject="$1:signal=SIGSTOP:when=$2"
@@ -364,6 +373,7 @@ if strace -f -o /dev/null -e trace=getppid -e inject=getppid:error=EIO true 2>/d
     two_at_once
     inject_new
     inject_answers
+    inject_group
     inject_all
     mkdir calm_old
     copy_book former.book before_move.book
