@@ -47,8 +47,7 @@ test: tools
 lib: $(LIBRARY)
 
 host: target/c/wizqamul-host
-	@echo "target/c/wizqamul-host [--new] [--accept-book] [--again] [--roster ROSTER] BOOK [FILE..]"
-	@echo "target/c/wizqamul-host --to-new BOOK OUT, or --to-old BOOK OUT"
+	@echo "target/c/wizqamul-host order BOOK WISHES OUT, book BOOK FILE.., or list BOOK; --help says all"
 
 # More than a million calls, given to the library and to the independent implementation.
 compare: target/c/compare

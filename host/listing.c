@@ -1,30 +1,40 @@
-/* Listing the book by school. */
+/* Listing the book by school or by supplier. */
 #include "listing.h"
+#include "ceilings.h"
+#include "listing_csv.h"
+#include "messages.h"
 #include "text.h"
 
 #include <inttypes.h>
 #include <stdio.h>
-#include <stdlib.h>
 #include <string.h>
 
-/* Letters of a row before its figures: supplier, reference and article, or one note. */
-enum { SUPPLIER_LETTERS = 14, REFERENCE_LETTERS = 12, ARTICLE_LETTERS = 16,
-       NOTE_LETTERS = SUPPLIER_LETTERS + REFERENCE_LETTERS + ARTICLE_LETTERS };
+/* Letters of a row before its figures: what is to be done, the account, reference and article,
+   or one note; and behind them the message and the expected date. */
+enum { TO_DO_LETTERS = 15, ACCOUNT_LETTERS = 14, REFERENCE_LETTERS = 12, ARTICLE_LETTERS = 16,
+       NOTE_LETTERS = TO_DO_LETTERS + ACCOUNT_LETTERS + REFERENCE_LETTERS + ARTICLE_LETTERS,
+       MESSAGE_LETTERS = 9, EXPECTED_LETTERS = 14 };
 
 /* A room is nearly full where one part of this many, or less, is free. */
 enum { NEARLY_FULL = 10, WARNING_ROOM = 100 };
 
 #define FIGURES_FORMAT " %8" PRIu64 " %8" PRIu64 " %8" PRIu64 " %5s %8" PRIu64 " %8" PRIu64
-#define MESSAGE_FORMAT "  %03" PRIu64 "      "      /* as wide as its heading */
+
+/* What the list by school and the list by supplier call things. */
+struct words {
+    const char *name;           /* what it is sorted by */
+    const char *group, *all;    /* the head of a group, and of the sums of all groups */
+    const char *other;          /* the account that stands in a row */
+    int names_wholesalers;      /* whether a group may be one */
+};
+
+static const struct words words_for_grouping[GROUPING_COUNT] = {
+    {"school", "School", "All schools", "supplier", 0},
+    {"supplier", "Supplier", "All suppliers", "school", 1}
+};
 
 /* Sums over several lines, and how many lines they are. */
 struct sums { uint64_t lines, ordered, filled, still_open, let_go, extra; };
-
-static int compare_keys(const void *one, const void *other)
-{
-    const uint8_t *const *first = one, *const *second = other;
-    return memcmp(*first, *second, WQ_LINE_KEY_WIDTH);
-}
 
 static void add(struct sums *sums, const wq_told *figures)
 {
@@ -36,49 +46,55 @@ static void add(struct sums *sums, const wq_told *figures)
     sums->extra += figures->extra;
 }
 
-static const char *mark_of(const uint8_t *line)
-{
-    switch (line[WQ_LINE_MARK]) {
-    case WQ_MARK_HELD: return "J";
-    case WQ_MARK_LET_GO: return "N";
-    default: return "-";
-    }
-}
-
 /* The beginning of a row. */
-static void print_who(const char *supplier, const char *reference, const char *article)
+static void print_who(const char *to_do, const char *account, const char *reference,
+                      const char *article)
 {
     printf("  ");
-    print_padded(supplier, SUPPLIER_LETTERS);
+    print_padded(to_do, TO_DO_LETTERS);
+    print_padded(account, ACCOUNT_LETTERS);
     print_padded(reference, REFERENCE_LETTERS);
     print_padded(article, ARTICLE_LETTERS);
 }
 
-/* What the line's last report said. Zeros and blanks for a day mean the same to whoever waits
-   for the title: none was named. A save of the old form kept the mark alone of a report. */
-static void print_report(const wq_told *figures)
+/* The number of a message, and the day it names. Zeros and blanks for a day mean the same to
+   whoever waits for the title: none was named. */
+static void print_message(const wq_told *figures)
 {
-    if (figures->message == WQ_NO_REPORT)
-        printf("  no report yet\n");
-    else if (figures->message == WQ_MESSAGE_UNKNOWN)
-        printf("  -        not known (old book)\n");
-    else if (figures->expected == WQ_EXPECTED_DAY)
-        printf(MESSAGE_FORMAT "%04" PRIu64 "%02" PRIu64 "%02" PRIu64 "\n", figures->message,
-               figures->year, figures->month, figures->day);
-    else
-        printf(MESSAGE_FORMAT "no day named\n", figures->message);
+    char number[TEXT_ROOM], day[TEXT_ROOM] = "no day named";
+    snprintf(number, sizeof number, "%03" PRIu64, figures->message);
+    if (figures->expected == WQ_EXPECTED_DAY)
+        snprintf(day, sizeof day, "%04" PRIu64 "%02" PRIu64 "%02" PRIu64, figures->year,
+                 figures->month, figures->day);
+    print_padded(number, MESSAGE_LETTERS);
+    print_padded(day, EXPECTED_LETTERS);
 }
 
-static void print_line(const uint8_t *line, const wq_told *figures)
+/* What the line's last report said. A save of the old form kept the mark alone of a report. */
+static void print_report(const struct listed *listed)
 {
-    char supplier[ACCOUNT_ROOM], reference[TEXT_ROOM], article[ACCOUNT_ROOM];
-    text_with_qualifier(line + WQ_LINE_SUPPLIER, WQ_ADDRESS_WIDTH, supplier);
-    text_of(line + WQ_LINE_REFERENCE, WQ_REFERENCE_WIDTH, reference);
-    text_with_qualifier(line + WQ_LINE_ARTICLE, WQ_ARTICLE_WIDTH, article);
-    print_who(supplier, reference, article);
+    printf("  ");
+    if (listed->figures.message == WQ_MESSAGE_UNKNOWN)
+        print_padded("-", MESSAGE_LETTERS);
+    else if (listed->figures.message != WQ_NO_REPORT)
+        print_message(&listed->figures);
+    print_meaning(listed->figures.message, listed->line + WQ_LINE_SUPPLIER);
+    printf("\n");
+}
+
+static void print_line(const struct listed *listed, const struct to_do *to_do)
+{
+    const wq_told *figures = &listed->figures;
+    const char *mark = mark_of(listed);
+    char what[TEXT_ROOM], account[ACCOUNT_ROOM], reference[TEXT_ROOM], article[ACCOUNT_ROOM];
+    snprintf(what, sizeof what, "%s %" PRIu64, to_do->word, to_do->copies);
+    text_with_qualifier(listed->key + ACCOUNT_WIDTH, WQ_ADDRESS_WIDTH, account);
+    text_of(listed->line + WQ_LINE_REFERENCE, WQ_REFERENCE_WIDTH, reference);
+    text_with_qualifier(listed->line + WQ_LINE_ARTICLE, WQ_ARTICLE_WIDTH, article);
+    print_who(what, account, reference, article);
     printf(FIGURES_FORMAT, figures->ordered, figures->filled, figures->still_open,
-           mark_of(line), figures->let_go, figures->extra);
-    print_report(figures);
+           mark[0] == '\0' ? "-" : mark, figures->let_go, figures->extra);
+    print_report(listed);
 }
 
 static void print_sums(const char *what, const struct sums *sums)
@@ -92,31 +108,38 @@ static void print_sums(const char *what, const struct sums *sums)
            sums->extra);
 }
 
-static void print_head(const uint8_t *line)
+/* Names a group, and the columns of its rows. */
+static void print_head(const uint8_t *account, const struct words *words)
 {
-    char school[ACCOUNT_ROOM];
-    text_with_qualifier(line + WQ_LINE_SCHOOL, WQ_ADDRESS_WIDTH, school);
-    printf("\nSchool %s\n", school);
-    print_who("supplier", "reference", "article");
-    printf(" %8s %8s %8s %5s %8s %8s  message  expected\n", "ordered", "filled", "open", "mark",
-           "let go", "extra");
+    const char *name = words->names_wholesalers ? wholesaler_name(account) : NULL;
+    char text[ACCOUNT_ROOM];
+    text_with_qualifier(account, WQ_ADDRESS_WIDTH, text);
+    printf("\n%s %s", words->group, text);
+    if (name != NULL)
+        printf(" (%s)", name);
+    printf("\n");
+    print_who("to do", words->other, "reference", "article");
+    printf(" %8s %8s %8s %5s %8s %8s  ", "ordered", "filled", "open", "mark", "let go", "extra");
+    print_padded("message", MESSAGE_LETTERS);
+    print_padded("expected", EXPECTED_LETTERS);
+    printf("meaning\n");
 }
 
-/* Prints the lines of one school, which stand together; returns how many they are. */
-static size_t print_school(const struct book *book, const uint8_t *const *sorted, size_t count,
-                           struct sums *all)
+/* Prints the lines of one group, which stand together; returns how many they are. */
+static size_t print_group(const struct listed *lines, size_t count, const struct words *words,
+                          struct sums *all)
 {
     struct sums total = {0, 0, 0, 0, 0, 0}, complete = {0, 0, 0, 0, 0, 0};
     size_t i;
-    print_head(sorted[0]);
-    for (i = 0; i < count && memcmp(sorted[i], sorted[0], ACCOUNT_WIDTH) == 0; i++) {
-        wq_told figures = book_figures(book, sorted[i]);
-        add(&total, &figures);
-        add(all, &figures);
-        if (figures.still_open + figures.let_go + figures.extra > 0)
-            print_line(sorted[i], &figures);
+    print_head(lines[0].key, words);
+    for (i = 0; i < count && memcmp(lines[i].key, lines[0].key, ACCOUNT_WIDTH) == 0; i++) {
+        struct to_do to_do = to_do_of(&lines[i]);
+        add(&total, &lines[i].figures);
+        add(all, &lines[i].figures);
+        if (to_do.copies > 0)
+            print_line(&lines[i], &to_do);
         else
-            add(&complete, &figures);
+            add(&complete, &lines[i].figures);
     }
     if (complete.lines > 0)
         print_sums("complete", &complete);
@@ -124,77 +147,60 @@ static size_t print_school(const struct book *book, const uint8_t *const *sorted
     return i;
 }
 
-static int compare_accounts(const void *one, const void *other)
+/* Whether an account was named, so that a list without lines may be a slip of the hand. */
+static int names_account(const struct choice *choice)
 {
-    const uint8_t *const *first = one, *const *second = other;
-    return memcmp(*first, *second, ACCOUNT_WIDTH);
+    return choice->school != NULL || choice->supplier != NULL;
 }
 
-/* A row of the schools' table. What somebody should see stands in capitals. */
-static void print_against_ceiling(const struct book *book, const uint8_t *account)
+/* Prints all groups, and the sums over them. */
+static void print_groups(const struct chosen *chosen, const struct choice *choice)
 {
-    wq_account_told told = roster_account(book->roster, account);
-    uint64_t copies = book_open_copies(book, account);
-    char school[ACCOUNT_ROOM];
-    text_with_qualifier(account, WQ_ADDRESS_WIDTH, school);
-    printf("  ");
-    print_padded(school, SUPPLIER_LETTERS);
-    if (told.answer != WQ_DONE) {
-        printf(" %10" PRIu64 " %10s  NOT ON THE ROSTER\n", copies, "-");
-        return;
-    }
-    printf(" %10" PRIu64 " %10" PRIu64, copies, told.ceiling);
-    if (copies > told.ceiling)
-        printf("  OVER BY %" PRIu64 "\n", copies - told.ceiling);
-    else if (copies == told.ceiling)
-        printf("  FULL\n");
-    else
-        printf("  %" PRIu64 " left\n", told.ceiling - copies);
-}
-
-/* The schools of the roster and those of the book, with open copies against ceilings. */
-static void print_schools(const struct book *book)
-{
-    const uint8_t *accounts[WQ_MOST_SCHOOLS + WQ_MOST_LINES];
-    size_t count = 0;
-    for (size_t i = 0; i < book->roster->count; i++)
-        accounts[count++] = school_account(&book->roster->schools[i]);
-    for (size_t i = 0; i < book->used[WQ_USED_LINES]; i++)
-        accounts[count++] = book->lines + i * WQ_LINE_WIDTH + WQ_LINE_SCHOOL;
-    qsort(accounts, count, sizeof accounts[0], compare_accounts);
-    printf("\nOpen copies against the ceilings of ");
-    print_name(stdout, book->roster->name);
-    printf("\n  ");
-    print_padded("school", SUPPLIER_LETTERS);
-    printf(" %10s %10s\n", "open", "ceiling");
-    for (size_t i = 0; i < count; i++)
-        if (i == 0 || memcmp(accounts[i - 1], accounts[i], ACCOUNT_WIDTH) != 0)
-            print_against_ceiling(book, accounts[i]);
-    printf("  on the roster: %zu of %d schools", book->roster->count, WQ_MOST_SCHOOLS);
-    if (book->roster->repeated > 0)
-        printf("; lines that do not count: %lu", book->roster->repeated);
-    printf("\n");
+    const struct words *words = &words_for_grouping[choice->by];
+    struct sums all = {0, 0, 0, 0, 0, 0};
+    printf("\nOpen orders by %s (mark: J held, N let go, - no report)\n", words->name);
+    for (size_t done = 0; done < chosen->count; )
+        done += print_group(chosen->lines + done, chosen->count - done, words, &all);
+    printf("\n%s\n", choice->open || names_account(choice) ? "All lines listed" : words->all);
+    print_sums("total", &all);
 }
 
 size_t print_listing(const struct book *book, const struct choice *choice)
 {
-    const uint8_t *sorted[WQ_MOST_LINES];
-    struct sums all = {0, 0, 0, 0, 0, 0};
-    size_t count = book->used[WQ_USED_LINES];
-    (void)choice;
-    for (size_t i = 0; i < count; i++)
-        sorted[i] = book->lines + i * WQ_LINE_WIDTH;
-    qsort(sorted, count, sizeof sorted[0], compare_keys);
-    printf("\nOpen orders by school (mark: J held, N let go, - no report)\n");
-    for (size_t done = 0; done < count; )
-        done += print_school(book, sorted + done, count - done, &all);
-    printf("\nAll schools\n");
-    print_sums("total", &all);
-    printf("  used: %zu of %d lines, %zu of %d slips\n", count, WQ_MOST_LINES,
+    static struct chosen chosen;
+    choose(&chosen, book, choice);
+    if (choice->csv) {
+        print_csv(&chosen);
+        return chosen.named;
+    }
+    print_groups(&chosen, choice);
+    printf("  used: %zu of %d lines, %zu of %d slips\n", book->used[WQ_USED_LINES], WQ_MOST_LINES,
            book->used[WQ_USED_SLIPS], WQ_MOST_SLIPS);
     if (book->roster->name != NULL)
-        print_schools(book);
-    return count;
+        print_ceilings(book, choice->school);
+    return chosen.named;
+}
+
+int warn_of_no_line(const char *path, const struct choice *choice)
+{
+    const struct { const char *what, *named; } accounts[] = {
+        {"school", choice->school}, {"supplier", choice->supplier}
+    };
+    const char *before = "no line of this book has";
+    if (!names_account(choice))
+        return 0;
+    fputs(PROGRAM ": ", stderr);
+    print_name(stderr, path);
+    fputs(": ", stderr);
+    for (size_t i = 0; i < sizeof accounts / sizeof accounts[0]; i++) {
+        if (accounts[i].named == NULL)
+            continue;
+        fprintf(stderr, "%s %s ", before, accounts[i].what);
+        print_name(stderr, accounts[i].named);
+        before = " and";
+    }
+    fputs("\n", stderr);
+    return 1;
 }
 
 /* One room: how much of it is used, of how many, and what it holds. */

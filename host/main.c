@@ -22,7 +22,7 @@
  *   --roster ROSTER   books for the schools of this file alone (see roster.h), up to their
  *                     ceilings, and lists open copies against them
  *   --open, --school A, --supplier A, --by school|supplier, --csv
- *                     which lines are listed, and how (see listing.h)
+ *                     which lines are listed, and how (see chosen.h)
  * The two moves stand alone: no option goes with them. They leave BOOK and what stands beside it
  * as they are, and make a book OUT that is not there yet (see moving.h).
  *
@@ -100,6 +100,16 @@ static enum exit_code end_unsaved(const struct book_file *file)
     return NOT_SAVED;
 }
 
+/* Lists the book; gives whether somebody should look, which is said on standard error. */
+static int list_book(const struct book_file *file, const struct book *book,
+                     const struct choice *choice)
+{
+    int waits = warn_of_waiting(file);
+    if (print_listing(book, choice) > 0)
+        return waits;
+    return warn_of_no_line(file->files.paths[OWN_BOOK], choice) || waits;
+}
+
 /* The run with the book's names found and all files read. */
 static enum exit_code run(struct book_file *file, struct input *inputs,
                           const struct request *request, const struct roster *roster)
@@ -118,9 +128,8 @@ static enum exit_code run(struct book_file *file, struct input *inputs,
         retold_leave(&booking.refused);
         return end_unsaved(file);
     }
-    if (warn_of_waiting(file) && code == ALL_DONE)
+    if (list_book(file, &book, &request->choice) && code == ALL_DONE)
         code = WORTH_A_LOOK;
-    print_listing(&book, &request->choice);
     retold_print(&booking.refused, "records");
     retold_leave(&booking.refused);
     warn_of_full_rooms(file->files.paths[OWN_BOOK], &book);

@@ -36,36 +36,29 @@ static int find_today(struct ordering *ordering)
     return 0;
 }
 
-/* What came of a wish. */
-struct outcome {
-    int accepted;
-    const char *before;         /* words before what is told of it */
-};
-
 /* Books the record of a wish, and prints what came of it. */
 static int book_order(struct ordering *ordering, const struct order *order, FILE *to,
-                      struct outcome *outcome)
+                      int *accepted)
 {
     struct record record = {order->bytes, order->length};
     wq_booked booked = book_record(&ordering->book, &record);
     print_outcome(to, &record, &booked, &ordering->book);
     print_column_of(to, booked.answer);
-    outcome->accepted = booked.answer == WQ_DONE;
-    return !outcome->accepted || out_files_add(&ordering->out, &record);
+    *accepted = booked.answer == WQ_DONE;
+    return !*accepted || out_files_add(&ordering->out, &record);
 }
 
 /* Orders one wish, and prints what came of it. Gives 0, and has said why, where the run cannot
    go on. */
 static int order_wish(struct ordering *ordering, const struct wish *wish, FILE *to,
-                      struct outcome *outcome)
+                      int *accepted)
 {
     struct order order;
     switch (wish_record(&ordering->list, wish, ordering->today, &order, to)) {
     case WISH_REFUSED:
-        outcome->before = "refused: ";
         return 1;
     case WISH_WRITTEN:
-        return book_order(ordering, &order, to, outcome);
+        return book_order(ordering, &order, to, accepted);
     default:
         complain(ordering->list.name, "a record does not read back as it was written");
         return 0;
@@ -74,30 +67,29 @@ static int order_wish(struct ordering *ordering, const struct wish *wish, FILE *
 
 /* One line for a wish, on standard output and, where it is refused, among what is told again. */
 static void tell_wish(struct ordering *ordering, const struct wish *wish,
-                      const struct outcome *outcome, const char *told)
+                      int accepted, const char *told)
 {
-    FILE *streams[] = {stdout, outcome->accepted ? NULL : retold_next(&ordering->refused)};
+    FILE *streams[] = {stdout, accepted ? NULL : retold_next(&ordering->refused)};
     for (size_t i = 0; i < sizeof streams / sizeof streams[0] && streams[i] != NULL; i++) {
         print_name(streams[i], ordering->list.name);
-        fprintf(streams[i], ":%lu %s%s\n", wish->line, outcome->before, told);
+        fprintf(streams[i], ":%lu %s%s\n", wish->line, accepted ? "" : "refused: ", told);
     }
 }
 
 /* Orders one wish, tells it and counts it. */
 static int take_wish(struct ordering *ordering, const struct wish *wish)
 {
-    struct outcome outcome = {0, ""};
     char *told = NULL;
     size_t length = 0;
     FILE *to = open_memstream(&told, &length);
-    int done = to != NULL && order_wish(ordering, wish, to, &outcome), kept;
+    int accepted = 0, kept, done = to != NULL && order_wish(ordering, wish, to, &accepted);
     kept = to != NULL && fclose(to) == 0;
     if (!kept)
         complain("memory", "there is not enough");
     else if (done)
-        tell_wish(ordering, wish, &outcome, told);
-    ordering->tally.booked += outcome.accepted != 0;
-    ordering->tally.refused += outcome.accepted == 0;
+        tell_wish(ordering, wish, accepted, told);
+    ordering->tally.booked += accepted != 0;
+    ordering->tally.refused += accepted == 0;
     free(told);
     return done && kept;
 }

@@ -65,7 +65,6 @@ int out_files_add(struct out_files *out, const struct record *order)
         return lacks_memory();
     fwrite(order->bytes, 1, order->length, file->stream);
     fputs("\r\n", file->stream);
-    file->orders++;
     return fflush(file->stream) == 0 || lacks_memory();
 }
 
@@ -97,10 +96,14 @@ static void name_file(const struct out_files *out, struct out_file *file, const 
 static int is_free(const struct out_files *out, const char *name)
 {
     struct stat status;
-    if (fstatat(out->directory, name, &status, AT_SYMLINK_NOFOLLOW) != 0 && errno == ENOENT)
+    int there = fstatat(out->directory, name, &status, AT_SYMLINK_NOFOLLOW) == 0;
+    if (!there && errno == ENOENT)
         return 1;
-    complain(out->name, "these orders were put out before, as it seems, for there is the file:");
-    complain(name, "is in the way; where it was not sent, move it away and try again");
+    if (there)
+        complain(name, "there is such a file of orders already, from before the book was taken "
+                 "back, as it seems; where it was not sent, move it away");
+    else
+        complain_system(name, "cannot see whether there is such a file of orders");
     return 0;
 }
 
@@ -172,7 +175,12 @@ static int collect(DIR *listed, const char *head, struct names *names)
     return errno == 0;
 }
 
-/* The names of all files that wait of a run; returns 0, and has said why, where it cannot. */
+static int compare_names(const void *one, const void *other)
+{
+    return strcmp(*(char *const *)one, *(char *const *)other);
+}
+
+/* The names of all files that wait of a run, in order; returns 0, and has said why, where it cannot. */
 static int find_waiting(int directory, const struct waiting *waiting, const char *head,
                         struct names *names)
 {
@@ -185,6 +193,8 @@ static int find_waiting(int directory, const struct waiting *waiting, const char
         closedir(listed);
     else if (open >= 0)
         close(open);
+    if (names->count > 0)
+        qsort(names->start, names->count, sizeof *names->start, compare_names);
     return found;
 }
 

@@ -31,7 +31,6 @@ struct out_file {
     FILE *stream;               /* the records in memory, each with its CR LF */
     char *text;
     size_t length;
-    unsigned long orders;
     char name[OUT_NAME_ROOM];   /* its own name in the directory */
     char wait[WAIT_NAME_ROOM];  /* the name under which it waits */
     int waits;                  /* it waits, and is removed where the book is not saved */

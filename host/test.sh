@@ -76,6 +76,9 @@ expect_answers() {
     expect_text got wanted "$2"
 }
 
+# The rows of the list.
+rows() { grep -E '^  (chase|reorder|return) [0-9]+ ' out; }
+
 # Document 01's samples, with what the tests change in them.
 order() { printf 'B10143210     VD24000     VD20240219%-10s9783442756841EN%sST%s*9999' "$1" "$2" "$3"; }
 delivery() { printf 'L10124000     VD43210     VD2024022670012345  %sA-17      9783442756841EN%s000000000129500LPEUR003000001*9999' "$1" "$2"; }
@@ -101,7 +104,7 @@ copy_book() {
     done
 }
 
-for part in answers articles reports parts roster text files log forms moves rights runs faults; do
+for part in answers articles reports list parts roster text files log forms moves rights runs words wishes order faults kills; do
     . "$parts/test_$part.sh"
 done
 echo "host: $passed checks passed"

@@ -63,12 +63,12 @@ grep -e ' 1[1468] the ' -e ' 18 this slip ' wanted >again
 expect_text got again "articles, repeated at the end"
 
 # --- the list has the order's article, after whatever answer ------------------------------------------
-grep '^  2400' out | sed 's/  */ /g' >got
+rows | sed 's/  */ /g' >got
 cat >wanted <<'LIST'
- 24000 VD A-17 9783442756841 EN 10 7 3 J 0 0 015 no day named
- 24000 VD A-18 12345678 KN 3 1 2 - 0 0 no report yet
- 24001 VD A-17 3442756847 IB 5 0 0 N 5 0 010 no day named
- 24000 VD A-17 123 45678 RK 6 1 5 - 0 0 no report yet
+ chase 3 24000 VD A-17 9783442756841 EN 10 7 3 J 0 0 015 no day named out of stock for a short time, order kept
+ chase 2 24000 VD A-18 12345678 KN 3 1 2 - 0 0 no report yet
+ reorder 5 24001 VD A-17 3442756847 IB 5 0 0 N 5 0 010 no day named Umbreit: out of stock for a short time, order not kept
+ chase 5 24000 VD A-17 123 45678 RK 6 1 5 - 0 0 no report yet
 LIST
 expect_text got wanted "the list after articles that differ"
 

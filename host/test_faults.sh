@@ -5,7 +5,7 @@ if ! command -v strace >/dev/null && [ "$(id -u)" -eq 0 ] && command -v apt-get 
 fi
 
 # The calls at which something is injected; a ? lets a machine lack one.
-calls='openat,read,write,close,fsync,fcntl,fchmod,fchown,?rename,renameat,?renameat2,?link,linkat,?fstat,?newfstatat,?stat,?lstat,?access,faccessat,?faccessat2,?readlink,readlinkat,?unlink,unlinkat'
+calls='openat,read,write,close,fsync,fcntl,fchmod,fchown,?rename,renameat,?renameat2,?link,linkat,?fstat,?newfstatat,?stat,?lstat,?access,faccessat,?faccessat2,?readlink,readlinkat,?unlink,unlinkat,getdents64'
 
 # Runs the program on b in a fresh copy of the directory `calm`, with something injected. The
 # run has a roster, so that errors of reading it are injected too; without one it would say so
@@ -24,7 +24,8 @@ state_of() { cat "$1/b" "$1/b.old" "$1/b.digests" "$1/b.log"; }
 
 # Writes a line for each call that the program makes of its own: name, which one, and whether
 # an error there must not go unnoticed. The program's first call is fcntl(0, F_GETFD). Calls
-# of the system's own libraries, and looks at files by their names, are left out.
+# of the system's own libraries, and looks at files by their names, are left out. A file is closed
+# first after it was written, and an error there counts; later after it was read.
 list_points() {
     awk -v here="$work/fault" '
         !main && /fcntl\(0<.*F_GETFD/ { main = $1 }
@@ -37,9 +38,10 @@ list_points() {
                 if (started) {
                     if (lines[i] ~ /"\/(usr|etc)\// || (name ~ /stat/ && index(lines[i], "\"" here "/b"))) continue
                     own = index(lines[i], here) > 0
-                    fresh = lines[i] ~ /<[^>]*\.wizqamul-new/
+                    fresh = lines[i] ~ /<[^>]*\.wizqamul-(new|wait)/
+                    match(lines[i], /<[^>]*>/); path = substr(lines[i], RSTART, RLENGTH)
                     must = name ~ /^(write|fsync|fchmod|rename|renameat|renameat2|link|linkat)$/ && lines[i] !~ /write\(2</ ||
-                           (name ~ /^(openat|read)$/ && own) || (name == "close" && fresh) ||
+                           (name ~ /^(openat|read|getdents64)$/ && own) || (name == "close" && fresh && !closed[path]++) ||
                            (name == "fcntl" && lines[i] ~ /F_SETLK/)
                     print name, count[name], must ? "must" : "may", fresh ? "fresh" : "other", lines[i] ~ /\.lock/ ? "lock" : "-"
                 }

@@ -6,7 +6,7 @@ report_on() {   # reference, message and hold mark, expected date
 orders() { for reference; do put "$(order "$reference" 0010 '')"; done; }
 part_of() { delivery "$2" "$3" | sed "s/A-17      /$(printf '%-10s' "$1")/"; }     # reference, position, copies
 expect_rows() { # what it is; the rows without their article on standard input
-    grep '^  2400' out | sed 's/  */ /g;s/ 9783442756841 EN//' >got
+    rows | sed 's/  */ /g;s/ 9783442756841 EN//' >got
     cat >wanted
     expect_text got wanted "$1"
 }
@@ -22,19 +22,19 @@ expect_code 0 "reports"
 sed -n '/^School/,/^$/p' out >got
 cat >list <<'LIST'
 School 43210 VD
-  supplier      reference   article           ordered   filled     open  mark   let go    extra  message  expected
-  24000 VD      R-1         9783442756841 EN       10        0       10     J        0        0  000      20240315
-  24000 VD      R-10        9783442756841 EN       10        0        0     N       10        0  999      10000101
-  24000 VD      R-2         9783442756841 EN       10        0       10     J        0        0  000      no day named
-  24000 VD      R-3         9783442756841 EN       10        0       10     J        0        0  000      no day named
-  24000 VD      R-4         9783442756841 EN       10        0        0     N       10        0  007      00010203
-  24000 VD      R-5         9783442756841 EN       10        0        0     N       10        0  015      no day named
-  24000 VD      R-6         9783442756841 EN       10        0        0     N       10        0  099      no day named
-  24000 VD      R-7         9783442756841 EN       10        0       10     J        0        0  100      99991231
-  24000 VD      R-8         9783442756841 EN       10        0       10     J        0        0  999      20240229
-  24000 VD      R-9         9783442756841 EN       10        0        0     N       10        0  010      20241110
-  24000 VD      Z-1         9783442756841 EN       10        0       10     -        0        0  no report yet
-  total: 11 lines                                 110        0       60             50        0
+  to do          supplier      reference   article           ordered   filled     open  mark   let go    extra  message  expected      meaning
+  chase 10       24000 VD      R-1         9783442756841 EN       10        0       10     J        0        0  000      20240315      available
+  reorder 10     24000 VD      R-10        9783442756841 EN       10        0        0     N       10        0  999      10000101      not in the wholesalers' lists
+  chase 10       24000 VD      R-2         9783442756841 EN       10        0       10     J        0        0  000      no day named  available
+  chase 10       24000 VD      R-3         9783442756841 EN       10        0       10     J        0        0  000      no day named  available
+  reorder 10     24000 VD      R-4         9783442756841 EN       10        0        0     N       10        0  007      00010203      out of print, order filed away
+  reorder 10     24000 VD      R-5         9783442756841 EN       10        0        0     N       10        0  015      no day named  out of stock for a short time, order kept
+  reorder 10     24000 VD      R-6         9783442756841 EN       10        0        0     N       10        0  099      no day named  order line cancelled
+  chase 10       24000 VD      R-7         9783442756841 EN       10        0       10     J        0        0  100      99991231      not in the wholesalers' lists
+  chase 10       24000 VD      R-8         9783442756841 EN       10        0       10     J        0        0  999      20240229      not in the wholesalers' lists
+  reorder 10     24000 VD      R-9         9783442756841 EN       10        0        0     N       10        0  010      20241110      out of stock for a short time, order not kept
+  chase 10       24000 VD      Z-1         9783442756841 EN       10        0       10     -        0        0  no report yet
+  total: 11 lines                                                110        0       60             50        0
 
 LIST
 expect_text got list "the list of reports"
@@ -68,17 +68,17 @@ put "$(part_of R-1 0001 0004)" "$(report_on R-2 015J 20240401)" "$(part_of R-4 0
 run book reports.book tuesday.bwa
 expect_code 0 "reports of a later run"
 expect_rows "reports of a later run" <<LIST
- 24000 VD R-1 10 4 6 J 0 0 000 20240315
- 24000 VD R-10 10 0 0 N 10 0 999 10000101
- 24000 VD R-2 10 0 10 J 0 0 015 20240401
- 24000 VD R-3 10 0 10 J 0 0 000 no day named
- 24000 VD R-5 10 0 0 N 10 0 015 no day named
- 24000 VD R-6 10 10 0 N 0 2 099 no day named
- 24000 VD R-7 10 0 10 J 0 0 100 99991231
- 24000 VD R-8 10 0 10 J 0 0 999 20240229
- 24000 VD R-9 10 1 0 N 9 0 000 no day named
- 24000 VD Z-1 10 0 0 N 10 0 000 no day named
- 24000 VD Z-2 3 0 3 - 0 0 no report yet
+ chase 6 24000 VD R-1 10 4 6 J 0 0 000 20240315 available
+ reorder 10 24000 VD R-10 10 0 0 N 10 0 999 10000101 not in the wholesalers' lists
+ chase 10 24000 VD R-2 10 0 10 J 0 0 015 20240401 out of stock for a short time, order kept
+ chase 10 24000 VD R-3 10 0 10 J 0 0 000 no day named available
+ reorder 10 24000 VD R-5 10 0 0 N 10 0 015 no day named out of stock for a short time, order kept
+ return 2 24000 VD R-6 10 10 0 N 0 2 099 no day named order line cancelled
+ chase 10 24000 VD R-7 10 0 10 J 0 0 100 99991231 not in the wholesalers' lists
+ chase 10 24000 VD R-8 10 0 10 J 0 0 999 20240229 not in the wholesalers' lists
+ reorder 9 24000 VD R-9 10 1 0 N 9 0 000 no day named available
+ reorder 10 24000 VD Z-1 10 0 0 N 10 0 000 no day named available
+ chase 3 24000 VD Z-2 3 0 3 - 0 0 no report yet
 LIST
 cp wanted rows
 run list reports.book
@@ -96,12 +96,12 @@ put "$(report_on L-3 034J 00000000)" "$(report_on L-4 000J 20250630)" "$(part_of
 run book --new last.book first.bwa second.bwa
 expect_code 0 "the last report"
 expect_rows "the last report" <<'LIST'
- 24000 VD L-1 10 0 10 J 0 0 022 no day named
- 24000 VD L-2 10 0 10 J 0 0 022 20240402
- 24000 VD L-3 10 0 10 J 0 0 034 no day named
- 24000 VD L-4 10 0 10 J 0 0 000 20250630
- 24000 VD L-5 10 4 6 J 0 0 015 20240315
- 24000 VD L-6 10 3 0 N 7 0 015 20240315
+ chase 10 24000 VD L-1 10 0 10 J 0 0 022 no day named order for a set day is kept
+ chase 10 24000 VD L-2 10 0 10 J 0 0 022 20240402 order for a set day is kept
+ chase 10 24000 VD L-3 10 0 10 J 0 0 034 no day named publication uncertain, order kept
+ chase 10 24000 VD L-4 10 0 10 J 0 0 000 20250630 available
+ chase 6 24000 VD L-5 10 4 6 J 0 0 015 20240315 out of stock for a short time, order kept
+ reorder 7 24000 VD L-6 10 3 0 N 7 0 015 20240315 out of stock for a short time, order kept
 LIST
 
 # --- a delivery that fills the line hides it, one that passes it does not; a report after that tells ----
@@ -110,11 +110,11 @@ put "$(part_of L-1 0003 0010)" "$(part_of L-2 0004 0011)" "$(part_of L-3 0005 00
 run book last.book full.bwa
 expect_code 0 "reports on full lines"
 expect_rows "reports on full lines" <<LIST
- 24000 VD L-2 10 10 0 J 0 1 022 20240402
- 24000 VD L-3 10 10 0 J 0 1 001 20240505
- 24000 VD L-4 10 0 0 N 10 0 999 no day named
- 24000 VD L-5 10 4 6 J 0 0 015 20240315
- 24000 VD L-6 10 3 0 N 7 0 015 20240315
+ return 1 24000 VD L-2 10 10 0 J 0 1 022 20240402 order for a set day is kept
+ return 1 24000 VD L-3 10 10 0 J 0 1 001 20240505 available within 14 days, order kept
+ reorder 10 24000 VD L-4 10 0 0 N 10 0 999 no day named not in the wholesalers' lists
+ chase 6 24000 VD L-5 10 4 6 J 0 0 015 20240315 out of stock for a short time, order kept
+ reorder 7 24000 VD L-6 10 3 0 N 7 0 015 20240315 out of stock for a short time, order kept
 LIST
 expect_out "complete: 1 line " "reports on full lines"
 
@@ -127,14 +127,14 @@ run book --new single.book single.bwa
 expect_code 1 "refused reports"
 expect_out "records: 5 booked, 0 with nothing to book, 7 refused" "refused reports"
 expect_rows "refused reports" <<'LIST'
- 24000 VD S-1 10 0 10 J 0 0 015 20240315
- 24000 VD S-2 10 0 10 - 0 0 no report yet
- 24001 VD S-1 10 0 10 - 0 0 no report yet
- 24000 VD S-1 10 0 10 - 0 0 no report yet
+ chase 10 24000 VD S-1 10 0 10 J 0 0 015 20240315 out of stock for a short time, order kept
+ chase 10 24000 VD S-2 10 0 10 - 0 0 no report yet
+ chase 10 24001 VD S-1 10 0 10 - 0 0 no report yet
+ chase 10 24000 VD S-1 10 0 10 - 0 0 no report yet
 LIST
 
 # --- another message with the same mark, or another day, is another book ---------------------------------
-sed 's/015 20240315$/022 no day named/' wanted >rows
+sed 's/015 20240315 .*/022 no day named order for a set day is kept/' wanted >rows
 cp -p single.book kept
 cp -p single.book.log kept_log
 put "$(report_on S-1 022J '')" >other.bwa
@@ -151,7 +151,7 @@ put "$(report_on S-1 022J 20240501)" >another.bwa
 run book single.book another.bwa
 expect_code 0 "another day"
 expect_same single.book.old kept "another day"
-sed 's/022 no day named$/022 20240501/' rows >later
+sed 's/022 no day named/022 20240501/' rows >later
 run list single.book
 expect_rows "another day, in the next run" <later
 

@@ -8,9 +8,9 @@ run book --new letters.book letters.bwa
 expect_code 0 "letters"
 expect_out "reference $(printf '\303\204\303\274\303\237\302\240\303\277')-\\x5C, article" "letters"
 expect_out "reference „A–1“, article" "marks"
-grep '^  24000' out >got
+rows >got
 figures='9783442756841 EN        1        0        1     -        0        0  no report yet'
-printf '  24000 VD      %s%s\n' 'A-1         ' "$figures" '„A–1“       ' "$figures" \
+printf '  chase 1        24000 VD      %s%s\n' 'A-1         ' "$figures" '„A–1“       ' "$figures" \
     "$(printf '\303\204\303\274\303\237\302\240\303\277')-\\x5C  " "$figures" >wanted
 expect_text got wanted "letters in the list, columns even"
 bytes() { byte=$1; while [ "$byte" -le "$2" ]; do printf "\\$(printf '%03o' "$byte")"; byte=$((byte + 1)); done; }
