@@ -21,9 +21,9 @@ came_of() {
     LC_ALL=C awk 'BEGIN { while ((getline record < "ordered.txt") > 0) records[++count] = record }
         /^wishes: / || /^nothing was saved/ { exit }
         { sub(/^[^:]*:/, ""); line = $1 }
-        $2 == "refused:" { print; next }
         $3 == 0 { print line, records[++taken]; next }
-        { column = index($0, ", column "); print line, $3 (column ? substr($0, column) : "") }' out
+        $2 != "refused:" || $3 != "B101" { print; next }
+        { column = index($0, ", column "); print line, $4 (column ? substr($0, column) : "") }' out
 }
 expect_came() {     # what should come of each wish; what it is
     came_of >got
