@@ -504,10 +504,11 @@ expect_came "2 B10143210     VD24000     VD${today}A-1       1            UM0001
 3 B10143210     VD24000     VD${today}A-2       1            UM0001ST*9999
 5 B10143210     VD24000     VD${today}A-3       1            UM0001ST*1003$(printf '\303\274')*9999
 6 B10143210     VD24000     VD${today}A-4       1            UM0001ST*1003$(printf '\303\274')*9999" "mixed encodings"
-printf '%s\n43210;24000;\2261;1;1\n' "$needed" >wishes.csv
+printf '%s\n43210;24000;\2261;1;1\n43210;24000;\303\274;1;1' "$needed" >wishes.csv
 order_wishes wishes.csv
-expect_code 0 "a mark of Windows-1252 alone"
-expect_came "2 B10143210     VD24000     VD${today}$(printf '\226')1        1            UM0001ST*9999" "a mark of Windows-1252 alone"
+expect_err "wishes.csv: line 3: a letter of UTF-8 stands here, but the file is not UTF-8 as a whole" "a mark of Windows-1252 and a letter of UTF-8"
+expect_came "2 B10143210     VD24000     VD${today}$(printf '\226')1        1            UM0001ST*9999
+3 B10143210     VD24000     VD${today}$(printf '\303\274')        1            UM0001ST*9999" "a mark of Windows-1252 and a letter of UTF-8"
 printf '\357\273\277%s;1003\r43210;24000;A-1;1;1;\303\274\r43210;24000;A-2;1;1;\374\r43210;24000;A-3;1;1;\374\r' "$needed" >wishes.csv
 wrong_wishes "the mark of UTF-8 and other bytes" "wishes.csv: line 3: this is not UTF-8, though the file has its mark at the front"
 for mark in '\377\376' '\376\377'; do
