@@ -7,6 +7,16 @@
 orders_afresh() { rm -rf fault && cp -rp calm_orders fault; }
 order_once() { { (cd fault && timeout 30 "$host" order --roster roster o wishes.csv out >../out 2>../err); code=$?; } 2>/dev/null; }
 order_injected() { run_injected "$1" order --roster roster o wishes.csv out; }
+# The name and the number of the first call of a traced run that matches.
+call_of() {
+    awk -v what="$1" '!main && /fcntl\(0<.*F_GETFD/ { main = $1 } { lines[NR] = $0 }
+        END { for (i = 1; i <= NR; i++) {
+            split(lines[i], part, " ")
+            name = part[2]; sub(/\(.*/, "", name)
+            if (part[1] == main) count[name]++
+            if (part[1] == main && lines[i] ~ what) { print name, count[name]; exit }
+        } }' trace
+}
 waiting_run() { sed -n 's/.*: orders \([0-9a-f]*\) wait in .*/\1/p' fault/o.log | tail -n 1; }
 
 # Each order of the book is in one file, whole: under its own name, or waiting as the log says.
@@ -80,8 +90,25 @@ fault_everywhere() {
         expect_orders "error at $at"
         [ $must = may ] || [ $code -ge 2 ] || fail "error at $at: it goes unnoticed"
         case $name,$code in unlink*) ;; *,2) expect_no_waiting "error at $at" ;; esac
+        [ $code -ne 2 ] || ! grep -q '^wishes: ' out || fail "error at $at: wishes are said to be ordered"
         expect_again "error at $at"
     done <order_points
+    # Where it cannot be told whether the book outlasts a power cut, its orders wait.
+    last=$(awk '$1 == "fsync" { sync = $2 } $1 == "renameat2" { print sync; exit }' order_points)
+    orders_afresh
+    order_injected "fsync:error=EIO:when=$last"
+    expect_code 3 "the book may not be on the disk"
+    expect_err "out: orders may wait here that are not put out" "the book may not be on the disk"
+    expect_err "/o: the book is saved" "the book may not be on the disk"
+    [ -z "$(ls fault/out)" ] || fail "the book may not be on the disk, and its orders are out"
+    # A name of which it cannot be told whether it is free is not taken.
+    orders_afresh
+    order_injected ""
+    look=$(call_of 'stat.*"24000-VD-[0-9a-f]*.bwa"')
+    orders_afresh
+    order_injected "${look% *}:error=EACCES:when=${look#* }"
+    expect_code 2 "a name that cannot be seen"
+    expect_err ".bwa: cannot see whether there is such a file of orders: Permission denied" "a name that cannot be seen"
 }
 
 # A run that is killed when the book is in place: every other run says that orders wait.
@@ -97,6 +124,9 @@ orders_that_wait() {
     run book fault/o order.bwa
     expect_code 1 "a booking while orders wait"
     expect_err "orders of this book wait here" "a booking while orders wait"
+    run_injected "fsync:error=EIO:when=6" book o one.bwa
+    expect_code 3 "a booking while orders wait that may not be on the disk"
+    expect_err "orders of this book wait here" "a booking while orders wait that may not be on the disk"
     cp fault/o booked.book
     # Where their directory is not there, nothing is ordered.
     mv fault/out fault/away
@@ -112,14 +142,33 @@ orders_that_wait() {
     # A file that waits with an order that the book does not have is not put out.
     wait=$(ls -A fault/out | head -n 1)
     cp "fault/out/$wait" kept.wait
-    for change in 's/A-1/A-7/' 's/EN0010/EN0011/' 's/9783442756841EN/9783120060017EN/' 's/B101/L101/' 's/EN0010.*/EN/'; do
+    for change in 's/A-1/A-7/' 's/A-2/A-8/' 's/43210/43211/' 's/24000/24001/' 's/EN0010/EN0011/' \
+        's/9783442756841EN/9783120060017EN/' 's/841EN/841KN/' 's/B101/L101/' 's/EN0010.*/EN/'; do
         sed "$change" kept.wait >"fault/out/$wait"
         run order fault/o fault/more.csv fault/elsewhere
         expect_code 2 "an order that waits and that the book does not have"
         expect_err "this file waits with an order that the book does not have" "an order that waits and that the book does not have"
         [ -z "$(ls fault/out)$(ls -A fault/elsewhere)" ] || fail "an order that waits and that the book does not have: it is out"
     done
+    # Nor is a link, and a pipe holds nothing up.
+    rm "fault/out/$wait"
+    ln -s ../../kept.wait "fault/out/$wait"
+    run order fault/o fault/more.csv fault/elsewhere
+    expect_code 2 "a link that waits"
+    expect_err "$wait: cannot read this file of orders that waits" "a link that waits"
+    [ -z "$(ls fault/out)" ] || fail "a link that waits: it is out"
+    rm "fault/out/$wait"
+    cp -rp fault kept_fault
+    mkfifo "fault/out/$wait"
+    run order fault/o fault/more.csv fault/elsewhere
+    [ $code -ne 124 ] || fail "a pipe that waits holds up an order"
+    rm -rf fault && mv kept_fault fault
     cp kept.wait "fault/out/$wait"
+    # A directory that cannot be read may hold orders that wait.
+    run_injected "getdents64:error=EIO:when=1" order o more.csv elsewhere
+    expect_code 2 "a directory of orders that wait that cannot be read"
+    expect_err "/fault/out: cannot look for the orders that wait: Input/output error" "a directory of orders that wait that cannot be read"
+    [ -z "$(ls fault/out)$(ls -A fault/elsewhere)" ] || fail "a directory of orders that wait that cannot be read: something is out"
     # A file in the way of one that waits stays, and the next run goes on.
     name=${wait#.wizqamul-wait-????????????????-}
     echo mine >"fault/out/$name"
@@ -131,11 +180,20 @@ orders_that_wait() {
     run order fault/o fault/more.csv fault/elsewhere
     expect_code 1 "an order after others were put out late"
     expect_err "/fault/out: orders of an earlier run wait here, and are put out first" "an order after others were put out late"
+    expect_not "none is left here" err "an order after others were put out late"
     expect_out "wishes: 1 ordered, 0 refused" "an order after others were put out late"
     diff -r fault/out want_out >/dev/null || fail "orders that are put out late are not those"
     [ "$(ls -A fault/elsewhere | wc -l)" -eq 1 ] || fail "an order after others were put out late: not out"
     run list fault/o
     expect_code 0 "a list after all orders are out"
+    # Their book goes to the disk before they are put out; then all is as in an order.
+    orders_afresh
+    order_injected "$put_out:signal=SIGKILL"
+    order_injected ""
+    expect_code 1 "orders put out late, traced"
+    list_points | awk '/^fsync/ { print "sync", $4 } /^rename/ { print $1 }' | sed 's/renameat2/name/;s/^rename.*/rename/' | tr '\n' ' ' >got
+    echo "sync other name name sync other sync fresh rename sync other sync other " | tr -d '\n' >wanted
+    expect_text got wanted "the order of orders put out late"
     # The log names the directory, whatever its name holds.
     odd=$(printf 'o\\x41 d\303\244\377\n: orders')
     orders_afresh
@@ -164,6 +222,39 @@ orders_that_wait() {
     order_once
     expect_code 0 "orders of a book that was taken back"
     ! grep -q 'A-1 ' fault/out/*.bwa || fail "orders that were taken back are out"
+}
+
+# Two runs at once, and somebody who takes files away.
+orders_meanwhile() {
+    orders_afresh
+    start_stopped $(awk '$1 == "openat" && $5 == "lock" { print $1, $2; exit }' order_points) order --roster roster o wishes.csv out
+    run book fault/o fault/one.bwa
+    expect_code 0 "a run while an order has no lock yet"
+    go_on
+    expect_code 0 "an order that gets the lock later"
+    cp first.out out
+    expect_out "wishes: 3 ordered, 0 refused" "an order that gets the lock later"
+    tail -n 4 fault/o.log | head -n 1 | grep -q ': fault/one.bwa$' || fail "an order that gets the lock later: the book is not that of before"
+    for stop in "$(awk '$1 == "fsync" { sync = $1 " " $2 } $1 == "renameat2" { print sync; exit }' order_points)" "$(awk '$1 == "fsync" { last = this; this = $1 " " $2 } END { print last }' order_points)"; do
+        orders_afresh
+        start_stopped $stop order --roster roster o wishes.csv out
+        run book fault/o fault/one.bwa
+        expect_code 2 "a run while another orders"
+        expect_err "another run" "a run while another orders"
+        go_on
+        expect_code 0 "the run that orders"
+        expect_orders "the run that orders"
+    done
+    orders_afresh
+    order_injected ""
+    look=$(call_of 'openat.*, "\\.", ')
+    orders_afresh
+    start_stopped $look order --roster roster o wishes.csv out
+    rm fault/out/.wizqamul-wait-*-BUCH2-*
+    go_on
+    expect_code 3 "a file of orders that somebody takes away"
+    cp first.err err
+    expect_err "out: not all files of orders are there any more" "a file of orders that somebody takes away"
 }
 
 # Where the file system cannot take a free name in one step, a file has both names for a moment.
@@ -221,6 +312,7 @@ mkdir calm_orders calm_orders/out
 copy_book kept.book calm_orders/o
 : >calm_orders/o.lock
 echo "43210 VD 600" >calm_orders/roster
+put "$(delivery 0077 0001)" >calm_orders/one.bwa
 printf 'school;supplier;reference;date;article;quantity\n43210;24000;A-1;20240219;9783442756841;10\n43210;BUCH2;A-1;20240219;9783442756841;5\n43210;24000;A-2;20240219;3442756847;3\n' >calm_orders/wishes.csv
 orders_afresh
 order_once
@@ -245,6 +337,7 @@ if strace -f -o /dev/null -e trace=getppid -e inject=getppid:error=EIO true 2>/d
     kill_everywhere
     fault_everywhere
     orders_that_wait
+    orders_meanwhile
     put_out_by_links
 else
     echo "host: orders not killed (no strace)"

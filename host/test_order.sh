@@ -42,7 +42,7 @@ copy_book round.book kept_round.book
 run order --roster roster.txt round.book wishes.csv out_day
 expect_code 1 "wishes that were ordered before"
 expect_err "wishes.csv: left out: these bytes were booked at 20" "wishes that were ordered before"
-expect_not "ordered," out "wishes that were ordered before"
+[ ! -s out ] || fail "wishes that were ordered before: something is printed"
 expect_same round.book kept_round.book "wishes that were ordered before"
 expect_same round.book.log kept.log "wishes that were ordered before"
 [ "$(ls -A out_day | wc -l)" -eq 2 ] || fail "wishes that were ordered before: a file came out"
@@ -56,6 +56,7 @@ expect_same round.book kept_round.book "wishes once more"
 # --- the answers come, and the chase list -----------------------------------------------------------------------
 run book --roster roster.txt round.book answers.bwa
 expect_code 0 "the answers of the day"
+expect_silent "the answers of the day"
 run list round.book --by supplier
 expect_code 0 "the chase list of the day"
 expect_text out "$parts/test_chase.txt" "the chase list of the day"
@@ -71,15 +72,20 @@ pass
 
 # --- without a roster, from standard input, by another desk's clock ----------------------------------------------
 mkdir out_plain
-run book --new plain_round.book
+run book --new empty.book
 printf 'school;supplier;reference;article;quantity\n43210;24000;T-1;9783442756841;7\n' >today.csv
-before=$(TZ=XYZ-13 date +%Y%m%d)
-TZ=XYZ-13 timeout 30 "$host" order plain_round.book - out_plain <today.csv >out 2>err; code=$?
-after=$(TZ=XYZ-13 date +%Y%m%d)
-expect_code 0 "wishes from standard input"
-expect_err "no roster was named" "wishes from standard input"
-expect_out "-:2 B101 0 done | school 43210 VD, supplier 24000 VD, reference T-1" "wishes from standard input"
-case $(cut -c 29-36 out_plain/*) in "$before" | "$after") pass ;; *) fail "an order without a date is not of today" ;; esac
+# Of these two zones, one at least has another day than the world's clock.
+for zone in XYZ-13 XYZ11; do
+    copy_book empty.book plain_round.book
+    rm -f out_plain/*
+    before=$(TZ=$zone date +%Y%m%d)
+    TZ=$zone timeout 30 "$host" order plain_round.book - out_plain <today.csv >out 2>err; code=$?
+    after=$(TZ=$zone date +%Y%m%d)
+    expect_code 0 "wishes from standard input"
+    expect_err "no roster was named" "wishes from standard input"
+    expect_out "-:2 B101 0 done | school 43210 VD, supplier 24000 VD, reference T-1" "wishes from standard input"
+    case $(cut -c 29-36 out_plain/*) in "$before" | "$after") pass ;; *) fail "an order without a date is not of today" ;; esac
+done
 printf '43210;24000;T-2;9783442756841;1\n43210;24000;T-2;9783442756841;1\n43210;24000;T-3;9783442756841;0\n43210;24000; ;9783442756841;1\n' >>today.csv
 run order plain_round.book today.csv out_plain
 expect_code 1 "wishes of which some are new"
@@ -87,6 +93,7 @@ expect_out "wishes: 1 ordered, 4 refused" "wishes of which some are new"
 expect_out "today.csv:2 refused: B101 14" "wishes of which some are new"
 expect_out "today.csv:4 refused: B101 14" "the same wish twice"
 expect_out "today.csv:5 refused: B101 11 the quantity is 0" "a wish of no copies"
+expect_out "quantity 0000, column quantity: " "a wish of no copies"
 expect_out "today.csv:6 refused: " "a wish without a reference"
 
 # --- no wish is accepted: no file, and the list is known ---------------------------------------------------------
@@ -99,6 +106,7 @@ expect_code 1 "no wish is accepted"
 expect_out "none.csv:2 refused: B101 24 the school is not on the roster" "no wish is accepted"
 expect_same none.book plain_round.book "no wish is accepted"
 [ -z "$(ls -A out_none)" ] || fail "no wish is accepted: a file came out"
+tail -n 1 none.book.log | grep -q ': none.csv$' || fail "no wish is accepted: the log tells of orders"
 run list none.book
 expect_code 0 "no wish was accepted"
 expect_silent "no wish was accepted"
@@ -107,6 +115,36 @@ expect_err "none.csv: left out" "no wish was accepted"
 run order --roster roster.txt --again none.book none.csv out_none
 expect_code 0 "a wish that another roster takes"
 [ "$(ls -A out_none | wc -l)" -eq 1 ] || fail "a wish that another roster takes: no file"
+
+# --- a doubtful roster, a book that is not known, two suppliers with one address, a book that is nearly full ----
+printf '43210 VD 60\n43210 VD 50\n' >twice_roster
+copy_book plain_round.book doubt.book
+rm out_none/*
+run order --roster twice_roster doubt.book none.csv out_none
+expect_code 1 "an order with a doubtful roster"
+expect_out "wishes: 1 ordered, 0 refused" "an order with a doubtful roster"
+rm out_none/*
+cp plain_round.book strange.book
+run order strange.book none.csv out_none
+expect_code 2 "an order into a book that is not known"
+run order --accept-book strange.book none.csv out_none
+expect_code 0 "an order that accepts a book"
+rm out_none/*
+copy_book plain_round.book address.book
+printf 'school;supplier;supplier qualifier;reference;article;quantity\n43210;24000;VD;Y-1;9783442756841;7\n43210;24000;SA;Y-1;9783442756841;7\n' >address.csv
+run order address.book address.csv out_none
+expect_code 0 "two suppliers with one address"
+book=$(digest address.book | cut -c 1-16)
+ls -A out_none >got
+printf '%s\n' 24000-SA-$book.bwa 24000-VD-$book.bwa >wanted
+expect_text got wanted "two suppliers with one address"
+rm out_none/*
+copy_book full.book near.book
+awk 'BEGIN { print "school;supplier;reference;article;quantity"; for (n = 1; n <= 12; n++) print "43210;24000;Z-" n ";9783442756841;" 300 + n }' >near.csv
+run order near.book near.csv out_none
+expect_code 0 "a book that is nearly full"
+expect_err "the book is nearly full: 39 of 512 lines are left" "a book that is nearly full"
+expect_out ": 12 orders put out" "a book that is nearly full"
 
 # --- a book that was taken back: its orders are not put out over those of before ----------------------------------
 copy_book plain_round.book back.book
@@ -121,6 +159,9 @@ cp -r out_back kept_back
 run order back.book other.csv out_back
 expect_code 2 "orders that were put out before the book was taken back"
 expect_err "24000-VD-$book.bwa: there is such a file of orders already, from before the book was taken back" "orders that were put out before the book was taken back"
+expect_err "back.book: nothing was saved, and no order of these wishes was put out" "orders that were put out before the book was taken back"
+[ "$(tail -n 1 out)" = "nothing was saved: the book stands as it was before this run" ] || fail "orders that were put out before the book was taken back: this is not the last word"
+expect_not "wishes:" out "orders that were put out before the book was taken back"
 expect_same back.book plain_round.book "orders that were put out before the book was taken back"
 diff -r out_back kept_back >/dev/null || fail "orders that were put out before: files changed"
 rm out_back/24000-*
@@ -129,10 +170,19 @@ expect_code 2 "one of these orders was put out before"
 expect_err "BUCH2-VD-$book.bwa: there is such a file of orders already" "one of these orders was put out before"
 [ "$(ls -A out_back | wc -l)" -eq 1 ] || fail "one of these orders was put out before: a file came out"
 rm out_back/*
+ln -s nowhere out_back/BUCH2-VD-$book.bwa
+run order back.book other.csv out_back
+expect_code 2 "a link to nothing under the name of a file of orders"
+expect_same back.book plain_round.book "a link to nothing under the name of a file of orders"
+[ "$(ls -A out_back | wc -l)" -eq 1 ] || fail "a link to nothing under the name of a file of orders: a file came out"
+rm out_back/*
 run order back.book other.csv out_back
 expect_code 0 "orders after the book was taken back"
 grep -q 'two\*9999' out_back/24000-VD-$book.bwa || fail "orders after the book was taken back: not those"
 pass
+run order back.book back.csv out_back
+expect_not "left out" err "wishes of a run that was taken back"
+expect_out "wishes: 0 ordered, 2 refused" "wishes of a run that was taken back"
 
 # --- places that are none -------------------------------------------------------------------------------------------
 copy_book plain_round.book place.book
@@ -148,7 +198,9 @@ refused_order() {   # what is said; then the arguments
 }
 refused_order "absent: cannot open the directory for the orders: No such file or directory" place.book back.csv absent
 refused_order "back.csv: cannot open the directory for the orders: Not a directory" place.book back.csv back.csv
+expect_err "place.book: nothing was done" "no directory for the orders"
 refused_order "absent.csv: cannot open: No such file or directory" place.book absent.csv wrong_out
+expect_err "place.book: nothing was done" "no wish list"
 refused_order "this is the book or a file that belongs to it" place.book place.book wrong_out
 refused_order "absent.book: there is no such book" absent.book back.csv wrong_out
 refused_order "nothing was done, since the roster cannot be used" --roster back.csv place.book back.csv wrong_out
@@ -172,13 +224,17 @@ if [ -c /dev/full ]; then
     expect_same place.book plain_round.book "answers that cannot be printed"
     [ -z "$(ls -A wrong_out)" ] || fail "answers that cannot be printed: a file came out"
 fi
-# Out may be the directory of the book; its own name may be odd.
+# Out may be the directory of the book; its own name may be odd, and that of the wishes.
+wishes=$(printf 'w\033.csv')
+cp back.csv "$wishes"
 for odd in . "$(printf 'o\\x41 d\303\244\377\n: orders')"; do
     [ -e "$odd" ] || mkdir "$odd"
     copy_book plain_round.book place.book
-    run order place.book back.csv "$odd"
+    run order place.book "$wishes" "$odd"
     expect_code 0 "an odd directory"
+    expect_out 'w\x1B.csv:2 B101 0 done' "an odd wish list"
     [ -s "$odd/24000-VD-$book.bwa" ] || fail "an odd directory: no file"
+    [ "$odd" = . ] || expect_out '/o\x5Cx41 dä\xFF\x0A: orders/24000-VD-' "an odd directory"
     rm "$odd"/*-VD-$book.bwa
 done
 copy_book plain_round.book place.book

@@ -38,6 +38,13 @@ expect_out "many.bwa:512 B101 15 all lines of the book are used | school" "more 
 run list new.book
 expect_code 0 "a full book loads"
 
+# --- as many refused records as are told again, and no more -----------------------------------------------
+head -n 1000 trash.bwa >thousand.bwa
+copy_book first.book thousand.book
+run book thousand.book thousand.bwa
+expect_out "Refused records, once more: 1000" "1000 refused records"
+expect_not "each in its place above" out "1000 refused records"
+
 # --- saves that fail --------------------------------------------------------------------------------------
 save_failed() {     # what it is; the book is old.book
     expect_code 2 "$1"

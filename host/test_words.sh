@@ -14,6 +14,10 @@ expect_code 2 "nothing asked for"
 expect_text err help "nothing asked for"
 run --help open.book
 expect_code 2 "help and something else"
+if [ -c /dev/full ]; then
+    timeout 30 "$host" --help >/dev/full 2>err; code=$?
+    expect_code 2 "help that cannot be printed"
+fi
 
 # --- the old form books and lists as its word does, and says so ------------------------------------------------
 copy_book open.book word.book
@@ -57,6 +61,10 @@ for word in book list order; do
     expect_code 0 "a book named $word, without a word"
     expect_err "./$word: no word says what to do" "a book named $word, without a word"
 done
+copy_book ../open.book orders
+run orders
+expect_code 0 "a book whose name begins with a word"
+expect_err "orders: no word says what to do" "a book whose name begins with a word"
 cd .. || exit 1
 
 # --- options stand before the names, behind them or between them ---------------------------------------------------
@@ -99,7 +107,14 @@ wrong_word "an order to standard output" order between.book desk.bwa -
 wrong_word "an order to no name" order between.book desk.bwa ""
 wrong_word "an order into standard input" order - desk.bwa wrong_out
 wrong_word "an order into a new book" order --new absent.book desk.bwa wrong_out
-wrong_word "an order as a table" order --csv between.book desk.bwa wrong_out
-for option in --open --csv; do wrong_word "$option of a book" book $option between.book delivery.bwa; done
-for option in --school --supplier --by; do wrong_word "$option of a book" book $option school between.book delivery.bwa; done
+wrong_word "half an option" list between.book --ope
+wrong_word "more than an option" list between.book --opens
+for option in --open --csv; do
+    wrong_word "$option of a book" book $option between.book delivery.bwa
+    wrong_word "$option of an order" order $option between.book desk.bwa wrong_out
+done
+for option in --school --supplier --by; do
+    wrong_word "$option of a book" book $option school between.book delivery.bwa
+    wrong_word "$option of an order" order $option school between.book desk.bwa wrong_out
+done
 expect_none absent.book "wrong use"
