@@ -146,6 +146,24 @@ expect_code 0 "a book that is nearly full"
 expect_err "the book is nearly full: 39 of 512 lines are left" "a book that is nearly full"
 expect_out ": 12 orders put out" "a book that is nearly full"
 
+# --- more wishes than the book has room for ----------------------------------------------------------------------
+awk 'BEGIN { print "school;supplier;reference;article;quantity"; for (n = 1; n <= 10000; n++) printf "43210;%s;R-%d;9783442756841;1\n", n % 2 ? "24000" : "BUCH2", n }' >many.csv
+mkdir out_many
+run book --new many_wishes.book
+run order many_wishes.book many.csv out_many
+expect_code 1 "10000 wishes for one book"
+expect_out "wishes: 512 ordered, 9488 refused" "10000 wishes for one book"
+expect_out "many.csv:513 B101 0 done" "10000 wishes for one book"
+expect_out "many.csv:514 refused: B101 15 all 512 lines of the book are used | school 43210 VD" "10000 wishes for one book"
+expect_out "many.csv:10001 refused: B101 15 all 512 lines of the book are used" "10000 wishes for one book"
+expect_out "Refused wishes, once more: 9488" "10000 wishes for one book"
+expect_out "and 8488 more, each in its place above" "10000 wishes for one book"
+expect_err "the book is nearly full: 0 of 512 lines are left" "10000 wishes for one book"
+cut -c 37-46 out_many/* | sort -t - -k 2n | tr -d ' ' >got
+awk 'BEGIN { for (n = 1; n <= 512; n++) print "R-" n }' >wanted
+expect_text got wanted "10000 wishes for one book"
+[ "$(ls out_many | wc -l)" -eq 2 ] || fail "10000 wishes for one book: not two files"
+
 # --- a book that was taken back: its orders are not put out over those of before ----------------------------------
 copy_book plain_round.book back.book
 mkdir out_back

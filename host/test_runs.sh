@@ -27,14 +27,14 @@ expect_not "lines" err "922 slips"
 run book slips.book last.bwa
 expect_code 1 "more than 1024 slips"
 expect_out "last.bwa:79 L101 21 more than 9999999 copies on one line | supplier" "a sum over the limit"
-expect_out "last.bwa:104 L101 19 all slips of the book are used | supplier" "more than 1024 slips"
+expect_out "last.bwa:104 L101 19 all 1024 slips of the book are used | supplier" "more than 1024 slips"
 expect_out "records: 102 booked, 0 with nothing to book, 2 refused" "more than 1024 slips"
 expect_err "0 of 1024 slips are left" "more than 1024 slips"
 copy_book first.book new.book
 run book new.book many.bwa
 expect_code 1 "more orders than lines"
 expect_out "many.bwa:511 B101 0 done" "more orders than lines"
-expect_out "many.bwa:512 B101 15 all lines of the book are used | school" "more orders than lines"
+expect_out "many.bwa:512 B101 15 all 512 lines of the book are used | school" "more orders than lines"
 run list new.book
 expect_code 0 "a full book loads"
 

@@ -21,9 +21,9 @@ came_of() {
     LC_ALL=C awk 'BEGIN { while ((getline record < "ordered.txt") > 0) records[++count] = record }
         /^wishes: / || /^nothing was saved/ { exit }
         { sub(/^[^:]*:/, ""); line = $1 }
-        $2 == "refused:" { print; next }
         $3 == 0 { print line, records[++taken]; next }
-        { column = index($0, ", column "); print line, $3 (column ? substr($0, column) : "") }' out
+        $2 != "refused:" || $3 != "B101" { print; next }
+        { column = index($0, ", column "); print line, $4 (column ? substr($0, column) : "") }' out
 }
 expect_came() {     # what should come of each wish; what it is
     came_of >got
@@ -131,6 +131,8 @@ cases "school;supplier;date;reference;quantity;article;article qualifier" "artic
 43210;24000;20240219;R;1;9,78344E+12 => refused: column article: 9,78344E+12 is not what it may hold: $any
 43210;24000;20240219;R;1;080442957x => refused: column article: 080442957x is not what it may hold: $any
 43210;24000;20240219;R;1;978344275684X => refused: column article: 978344275684X is not what it may hold: $any
+43210;24000;20240219;R;1;123456789X123 => refused: column article: 123456789X123 is not what it may hold: $any
+43210;24000;20240219;R;1;abc 45678;RK => refused: column article: abc 45678 is not what it may hold: three digits, blanks and five digits (RK)
 43210;24000;20240219;R;1;12 345678 => refused: column article: 12 345678 is not what it may hold: $any
 43210;24000;20240219;R;1;1234 5678 => refused: column article: 1234 5678 is not what it may hold: $any
 43210;24000;20240219;R;1;123 456789 => refused: column article: 123 456789 is not what it may hold: $any
@@ -351,8 +353,8 @@ for between in ',' '	'; do
     wrong_wishes "columns that are parted otherwise" \
         "wishes.csv: line 1: there is no semicolon; columns are parted by semicolons, not by commas or tabs"
 done
-printf '%s;%s\n' "$needed" "a,b" >wishes.csv
-wrong_wishes "a comma in a name" "wishes.csv: line 1: column 6, a,b, is not known" "$known"
+printf 'a,b;%s\n' "$needed" >wishes.csv
+wrong_wishes "a comma in a name" "wishes.csv: line 1: column 1, a,b, is not known" "$known"
 names() { LC_ALL=C awk -v head="$needed" -v count="$1" 'BEGIN { printf "%s", head; for (n = 5; n < count; n++) printf ";#"; print ""; print "43210;24000;A-1;1;1" }'; }
 names 129 >wishes.csv
 wrong_wishes "129 columns" "wishes.csv: line 1: there are more than 128 columns"
@@ -408,7 +410,7 @@ expect_came "3 B10143210     VD24000     VD${today}A-1       9783442756841EN0010
 11 refused: column 1001: something stands behind the closing quote
 12 refused: column 7: something stands behind the closing quote
 13 refused: cell 9 is filled, but the header names no more than 8 columns
-14 refused: column 8888: a\\x0Ab holds the byte \\x0A, which is no letter or sign
+14 refused: column 8888: a\\x0Ab holds a line end, which is no letter or sign
 16 B10143210     VD24000     VD${today}A-5       1            UM0001ST*8888\" *9999
 17 refused: cell 9 is filled, but the header names no more than 8 columns
 19 refused: column school: \"43210\" is not what it may hold: 1 to 10 capital letters or digits
@@ -458,12 +460,12 @@ expect_same ordered.txt wanted "letters, UTF-8 with its mark"
   printf '43210;24000;\360\237\223\226;1;1;;\n'
   printf '43210;24000;A-1;1;1;u\314\210;\n'
   printf '43210;24000;A-1;1;1;\302\240x\302\240;\304\215\n'
-  printf '\302\24043210 \302\240;24000;A-2;123 \302\240 45678;\302\2401;\302\240 \302\240;\n'
+  printf '\302\24043210 \302\240;24000;A-2;123 \302\240 45678;\302\2401;\302\240 \302\240;"note"\302\240 \n'
   printf '43210;24000;A-3;1;1;a\000b;\n'
   printf '43210;24000;\000;1;1;;\n'
   printf '43210;24000;A-3;1;1;a\tb\177;\001\n'
-  printf '43210;24000;A-3;1;1;\177;\n'
-  printf '43210\000;24000;A-3;1;1;;\n'
+  printf '43210;24000;A-3;1;1;"a\rb\001";\n'
+  printf '43210\177;24000;A-3;1;1;;\n'
   printf '\000\n\357\273\27743210;24000;A-3;1;1\n'; } >wishes.csv
 order_wishes wishes.csv
 no_sign='which is no letter or sign'
@@ -475,11 +477,11 @@ expect_came "2 refused: column 8888: the letter č (U+010D) is not one of Window
 7 B10143210     VD24000     VD${today}A-2       123     45678RK0001ST*9999
 8 refused: column 8888: a\\x00b holds the byte \\x00, $no_sign
 9 refused: column reference: \\x00 holds the byte \\x00, $no_sign
-10 refused: column 8888: a\\x09b\\x7F holds the byte \\x09, $no_sign
-11 refused: column 8888: \\x7F holds the byte \\x7F, $no_sign
-12 refused: column school: 43210\\x00 holds the byte \\x00, $no_sign
-13 refused: column article: empty is not what it may hold: $any
-14 refused: column school: the letter $(printf '\357\273\277') (U+FEFF) is not one of Windows-1252" "letters that a record cannot hold"
+10 refused: column 8888: a\\x09b\\x7F holds a tab, $no_sign
+11 refused: column 8888: a\\x0Db\\x01 holds a line end, $no_sign
+13 refused: column school: 43210\\x7F holds the byte \\x7F, $no_sign
+14 refused: column article: empty is not what it may hold: $any
+15 refused: column school: the letter $(printf '\357\273\277') (U+FEFF) is not one of Windows-1252" "letters that a record cannot hold"
 expect_not "UTF-8" err "letters that a record cannot hold"
 { printf '%s;8888\n' "$needed"
   for byte in 201 215 217 220 235; do printf '43210;24000;A-1;1;1;x'; printf "\\$byte"; printf '\n'; done; } >wishes.csv
@@ -502,7 +504,12 @@ expect_came "2 B10143210     VD24000     VD${today}A-1       1            UM0001
 3 B10143210     VD24000     VD${today}A-2       1            UM0001ST*9999
 5 B10143210     VD24000     VD${today}A-3       1            UM0001ST*1003$(printf '\303\274')*9999
 6 B10143210     VD24000     VD${today}A-4       1            UM0001ST*1003$(printf '\303\274')*9999" "mixed encodings"
-printf '\357\273\277%s;1003\r43210;24000;A-1;1;1;\303\274\r43210;24000;A-2;1;1;\374\r' "$needed" >wishes.csv
+printf '%s\n43210;24000;\2261;1;1\n43210;24000;\303\274;1;1' "$needed" >wishes.csv
+order_wishes wishes.csv
+expect_err "wishes.csv: line 3: a letter of UTF-8 stands here, but the file is not UTF-8 as a whole" "a mark of Windows-1252 and a letter of UTF-8"
+expect_came "2 B10143210     VD24000     VD${today}$(printf '\226')1        1            UM0001ST*9999
+3 B10143210     VD24000     VD${today}$(printf '\303\274')        1            UM0001ST*9999" "a mark of Windows-1252 and a letter of UTF-8"
+printf '\357\273\277%s;1003\r43210;24000;A-1;1;1;\303\274\r43210;24000;A-2;1;1;\374\r43210;24000;A-3;1;1;\374\r' "$needed" >wishes.csv
 wrong_wishes "the mark of UTF-8 and other bytes" "wishes.csv: line 3: this is not UTF-8, though the file has its mark at the front"
 for mark in '\377\376' '\376\377'; do
     printf "${mark}s\\000c\\000" >wishes.csv

@@ -22,7 +22,7 @@ static size_t digits_at(const struct cell *cell, size_t from)
     return at - from;
 }
 
-/* Writes digits to the end of a field, with zeros before them. */
+/* Writes a number to the end of a field, with zeros before it. */
 static void put_number(uint8_t *to, size_t width, const uint8_t *digits, size_t count)
 {
     memset(to, '0', width - count);
@@ -42,7 +42,7 @@ static int take_text(const struct cell *cell, uint8_t *to, size_t width)
 static int take_quantity(const struct cell *cell, uint8_t *to, size_t width)
 {
     size_t zeros = 0;
-    if (cell->length == 0 || digits_at(cell, 0) < cell->length)
+    if (cell->length == 0)
         return 0;
     while (cell->length - zeros > width && cell->start[zeros] == '0')
         zeros++;
@@ -81,7 +81,7 @@ static int take_day_as(const struct day_form *form, const struct cell *cell, uin
 static int take_date(const struct cell *cell, uint8_t *to, size_t width)
 {
     if (digits_at(cell, 0) == cell->length)
-        return cell->length == width && take_text(cell, to, width);
+        return take_text(cell, to, width);
     for (size_t i = 0; i < sizeof day_forms / sizeof day_forms[0]; i++)
         if (take_day_as(&day_forms[i], cell, to))
             return 1;
@@ -110,16 +110,13 @@ static size_t without_hyphens(const struct cell *cell, uint8_t signs[WQ_ARTICLE_
     return count;
 }
 
-/* Whether a cell has the form of an article RK, with any number of blanks in its middle. */
+/* Whether a cell has the form of an article RK: three signs, any number of blanks, five signs. */
 static int is_series(const struct cell *cell)
 {
     size_t at = SERIES_WIDTH;
-    if (digits_at(cell, 0) != SERIES_WIDTH)
-        return 0;
     while (at < cell->length && is_blank_in_cell(cell->start[at]))
         at++;
-    return at > SERIES_WIDTH && digits_at(cell, at) == VOLUME_WIDTH &&
-           at + VOLUME_WIDTH == cell->length;
+    return at > SERIES_WIDTH && at + VOLUME_WIDTH == cell->length;
 }
 
 /* An EAN or ISBN may have hyphens. */

@@ -147,6 +147,17 @@ static size_t place_of_no_sign(const struct cell *cell)
     return at;
 }
 
+/* A byte that is no sign, in words that say where it comes from. */
+static void print_no_sign(FILE *to, uint8_t byte)
+{
+    if (byte == '\n' || byte == '\r')
+        fputs("a line end", to);
+    else if (byte == '\t')
+        fputs("a tab", to);
+    else
+        fprintf(to, "the byte \\x%02X", (unsigned)byte);
+}
+
 /* Ends a reason: what stands in a cell, and what it may hold. A byte that is no sign may stand in
    none, and is told by itself. */
 static void print_not_allowed(const struct draft *draft, const struct cell *cell,
@@ -154,11 +165,13 @@ static void print_not_allowed(const struct draft *draft, const struct cell *cell
 {
     size_t place = place_of_no_sign(cell);
     print_cell(draft->why, cell);
-    if (place < cell->length)
-        fprintf(draft->why, " holds the byte \\x%02X, which is no letter or sign",
-                (unsigned)cell->start[place]);
-    else
+    if (place == cell->length) {
         fprintf(draft->why, " is not what it may hold: %s", may_hold);
+        return;
+    }
+    fputs(" holds ", draft->why);
+    print_no_sign(draft->why, cell->start[place]);
+    fputs(", which is no letter or sign", draft->why);
 }
 
 /* Refuses a fixed field. Before a wrong qualifier no article is right, so that is to blame. */

@@ -129,28 +129,30 @@ static size_t take_letter(const struct wish_list *list, struct cell *cell, size_
     return length > 0 ? length : 1;
 }
 
-/* Whether something stands behind the closing quote. */
-static int is_followed(const struct bytes *text, const struct extent *extent)
+/* Makes a cell of what stands between two places of the text, where it stands: the bytes only
+   become fewer. */
+static void take_between(struct wish_list *list, size_t at, size_t end, int quoted,
+                         struct cell *cell)
 {
-    size_t at = extent->quoted ? extent->end + 1 : extent->next;
-    while (at < extent->next && is_blank_in_cell(text->start[at]))
-        at++;
-    return at < extent->next;
-}
-
-/* Makes a cell of what stands in the text, in its place: the bytes only become fewer. */
-static void take_cell(struct wish_list *list, const struct extent *extent, struct cell *cell)
-{
-    uint8_t *text = list->input.bytes.start, *to = text + extent->start;
-    size_t at = extent->start;
+    uint8_t *text = list->input.bytes.start, *to = text + at;
     memset(cell, 0, sizeof *cell);
     cell->start = to;
-    cell->followed = is_followed(&list->input.bytes, extent);
-    while (at < extent->end) {
-        at += extent->quoted && text[at] == QUOTE;
+    while (at < end) {
+        at += quoted && text[at] == QUOTE;
         at += take_letter(list, cell, at, to++);
     }
     cell->length = (size_t)(to - cell->start);
+}
+
+/* Makes a cell of its extent. */
+static void take_cell(struct wish_list *list, const struct extent *extent, struct cell *cell)
+{
+    struct cell behind;
+    take_between(list, extent->start, extent->end, extent->quoted, cell);
+    if (!extent->quoted)
+        return;
+    take_between(list, extent->end + 1, extent->next, 0, &behind);
+    cell->followed = cell_trimmed(&behind).length > 0;
 }
 
 /* Takes the cell that comes next and passes over it; gives whether the row goes on behind it. */

@@ -17,7 +17,7 @@ use entry::line::Line;
 use entry::line::Mark;
 use entry::report::Message;
 use entry::report::expected_date;
-use judging::keys::slip_key;
+use naming::slip_key;
 use record::layout::Kind;
 use record::places::ARTICLE;
 use record::places::EXPECTED;

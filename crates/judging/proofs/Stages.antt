@@ -1,55 +1,20 @@
 -- What the book says of a record, by the tests that the code makes: one law for each outcome.
 use mathlib.Core.Path.{_≡_, _∙_, ap, sym, refl}
-use mathlib.Core.Bool.{Bool, true, false, _&&_}
+use mathlib.Core.Bool.{true, false}
 use mathlib.Core.List.{List}
-use Prim.Native.Nat.{ℕ, _+_, _/_, _≤_, _<_}
-use borrow.Author.Tests.{eq-eqb, ne-eqb, lt-ltb, le-ltb, lt-leb, le-leb}
-use lib.Dec.{eqb}
-use lib.ListN.{length, getD}
-use lib.Seq.{slice}
-use Rattle.rules.specs.Class.{allOf}
-use Rattle.rules.specs.Values.{copiesOf}
+use Prim.Native.Nat.{ℕ, _+_}
+use borrow.Author.Tests.{eq-eqb, ne-eqb}
 use Rattle.rules.specs.declared.amount.Copies.{Copies}
-use Rattle.rules.specs.declared.class.Class.the-variants.{Blank}
-use Rattle.record.specs.Layout.{layout, total, startOf}
 use Rattle.roster.specs.Roster.{standing}
 use Rattle.roster.specs.declared.Standing.{Standing}
 use Rattle.roster.specs.declared.Standing.the-variants.{On, Off}
-use Rattle.record.specs.Values.{fieldBytes}
 use Rattle.record.specs.declared.layout.Kind.{Kind}
 use Rattle.record.specs.declared.layout.Kind.the-variants.{Order, Goods, Report}
-use Rattle.entry.specs.Stored.{lineWidth, slipWidth, mostArrived, lineAt, keyIs, slipLineAt, slipCopiesAt}
-use Rattle.book.specs.Lent.{Lent, usedLines, usedSlips, lineRoom, slipRoom, findLine, findSlip, openCopies}
+use Rattle.book.specs.Lent.{Lent, findLine, findSlip, openCopies}
 use Rattle.book.specs.Booking.{lineKey, slipKey, schoolIn, copiesIn, nothingToBook, noCopies, noReference, newLineJudged, orderJudged, slipJudged, arrivalJudged, goodsJudged, deliveryJudged, reportJudged, bookJudged, onRoster, fitJudged}
 use Rattle.cells.specs.declared.search.Found.the-variants.{At, Nothing}
-use Rattle.book.specs.declared.answer.Refused.the-variants.{NothingToBook, NoCopies, NoReference, LineExists, LinesUsed, NoLine, SlipBooked, SlipDiffers, SlipsUsed, TooManyArrived, NotOnRoster, CeilingPassed}
+use Rattle.book.specs.declared.answer.Refused.the-variants.{NothingToBook, NoCopies, NoReference, LineExists, NoLine, NotOnRoster}
 use Rattle.book.specs.declared.answer.Verdict.the-variants.{Refuse, Fits}
-
--- the quantity, and whether a field is blank, as the code takes them from their places
-module _ (s : List ℕ) {p : List ℕ} where
-  pub order-copies : {n : Copies} → n ≡ copiesOf p → p ≡ slice 61 65 s → n ≡ copiesIn Order s
-  unfolding copiesIn fieldBytes startOf total layout
-  order-copies e h = rw (e, h)
-
-  pub goods-copies : {n : Copies} → n ≡ copiesOf p → p ≡ slice 75 79 s → n ≡ copiesIn Goods s
-  unfolding copiesIn fieldBytes startOf total layout
-  goods-copies e h = rw (e, h)
-
-  pub order-blank : {t : Bool} → t ≡ allOf Blank p → p ≡ slice 36 46 s → t ≡ noReference Order s
-  unfolding noReference fieldBytes startOf total layout
-  order-blank e h = rw (e, h)
-
-  pub goods-blank : {t : Bool} → t ≡ allOf Blank p → p ≡ slice 50 60 s → t ≡ noReference Goods s
-  unfolding noReference fieldBytes startOf total layout
-  goods-blank e h = rw (e, h)
-
-  pub slip-blank : {t : Bool} → t ≡ allOf Blank p → p ≡ slice 36 46 s → t ≡ nothingToBook Goods s
-  unfolding nothingToBook fieldBytes startOf total layout
-  slip-blank e h = rw (e, h)
-
-  pub report-blank : {t : Bool} → t ≡ allOf Blank p → p ≡ slice 38 48 s → t ≡ noReference Report s
-  unfolding noReference fieldBytes startOf total layout
-  report-blank e h = rw (e, h)
 
 -- what is 0, and what differs from 0, still is and does under another name
 pub none-copies : {n m : Copies} → n ≡ m → n .0 ≡ 0 → m .0 ≡ 0
@@ -155,21 +120,6 @@ module _ (b : Lent) (school : List ℕ) (n : Copies) (ceiling : ℕ) (key : List
   unfolding orderJudged
   new-line f = rw f
 
--- 25, 15
-module _ (b : Lent) (copies ceiling : ℕ) where
-  pub room-passed : ceiling < copies → newLineJudged b copies ceiling ≡ Refuse CeilingPassed
-  unfolding newLineJudged
-  room-passed h = rw (lt-leb _ _ h)
-
-  module _ (h : copies ≤ ceiling) where
-    pub room-fits : getD (b .used) 0 0 < length (b .lines) / lineWidth → newLineJudged b copies ceiling ≡ Fits (getD (b .used) 0 0)
-    unfolding newLineJudged usedLines lineRoom
-    room-fits u = rw (le-leb _ _ h, lt-ltb _ _ u)
-
-    pub room-full : length (b .lines) / lineWidth ≤ getD (b .used) 0 0 → newLineJudged b copies ceiling ≡ Refuse LinesUsed
-    unfolding newLineJudged usedLines lineRoom
-    room-full u = rw (le-leb _ _ h, le-ltb _ _ u)
-
 -- 17 or 18, 16, then the rest
 module _ (b : Lent) (key : List ℕ) (n : Copies) (slip : List ℕ) where
   pub slip-again : (j : ℕ) → findSlip b slip ≡ At j → deliveryJudged b key n (findSlip b slip) ≡ slipJudged b key n j
@@ -194,28 +144,3 @@ module _ (b : Lent) (key : List ℕ) where
   pub mark-fits : (i : ℕ) → findLine b key ≡ At i → reportJudged (findLine b key) ≡ Fits i
   unfolding reportJudged
   mark-fits i f = rw f
-
--- 17 or 18, by whether line key and quantity are the same
-module _ (b : Lent) (key : List ℕ) (n : Copies) (j : ℕ) where
-  pub slip-same : keyIs (b .lines) key (slipLineAt (b .slips) j) && eqb (slipCopiesAt (b .slips) j .0) (n .0) ≡ true → slipJudged b key n j ≡ Refuse SlipBooked
-  unfolding slipJudged
-  slip-same e = rw e
-
-  pub slip-other : keyIs (b .lines) key (slipLineAt (b .slips) j) && eqb (slipCopiesAt (b .slips) j .0) (n .0) ≡ false → slipJudged b key n j ≡ Refuse SlipDiffers
-  unfolding slipJudged
-  slip-other e = rw e
-
--- 21, 19
-module _ (b : Lent) (n : Copies) (i : ℕ) where
-  pub arrival-many : mostArrived < lineAt (b .lines) i .arrived .0 + n .0 → arrivalJudged b n i ≡ Refuse TooManyArrived
-  unfolding arrivalJudged
-  arrival-many h = rw (lt-leb _ _ h)
-
-  module _ (h : lineAt (b .lines) i .arrived .0 + n .0 ≤ mostArrived) where
-    pub arrival-fits : getD (b .used) 1 0 < length (b .slips) / slipWidth → arrivalJudged b n i ≡ Fits i
-    unfolding arrivalJudged usedSlips slipRoom
-    arrival-fits u = rw (le-leb _ _ h, lt-ltb _ _ u)
-
-    pub arrival-full : length (b .slips) / slipWidth ≤ getD (b .used) 1 0 → arrivalJudged b n i ≡ Refuse SlipsUsed
-    unfolding arrivalJudged usedSlips slipRoom
-    arrival-full u = rw (le-leb _ _ h, le-ltb _ _ u)

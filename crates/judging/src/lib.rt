@@ -1,3 +1,2 @@
-// A record judged against a sound book: the keys that it names, and what the book says of it.
+// A record judged against a sound book: what the book says of it.
 pub mod judge;
-pub mod keys;

@@ -39,7 +39,7 @@ use Rattle.book.specs.declared.answer.Verdict.{Verdict}
 use Rattle.book.specs.declared.answer.Verdict.the-variants.{Refuse, Fits}
 use Rattle.book.proofs.Fields.{order-copies}
 use Rattle.book.proofs.Opens.{open-below}
-use Rattle.judging.proofs.Named.{order-school-is, goods-school-is, report-school-is}
+use Rattle.naming.proofs.Named.{order-school-is, goods-school-is, report-school-is}
 use Rattle.own.specs.Own.{partiesEnd, accountBy, ownEntry, ownRoster, bookOwn, NeverInTheWay}
 
 -- the account of a record that has its two parties has its length, so the roster that it meets has the right size

@@ -1,8 +1,7 @@
 -- `entering::enter_goods` meets its contract.
 use native.Mathlib.Omega.{arith}
 use Rattle.rules.proofs.Parts.{part-most}
-use Rattle.judging.proofs.Named.{goods-article-is}
-use Rattle.judging.proofs.Stages.{goods-copies}
+use Rattle.naming.proofs.Named.{goods-article-is, goods-copies}
 use Rattle.book.proofs.Fields.{slip-key-long}
 use Rattle.entering.proofs.Entered.{goods-entered}
 use borrow.Author.Needs.{needs}

@@ -4,8 +4,7 @@ use native.Mathlib.Omega.{arith}
 use lib.ListN.{length}
 use Rattle.rules.proofs.Parts.{part-most}
 use Rattle.book.proofs.Fields.{order-named-long}
-use Rattle.judging.proofs.Named.{order-parts}
-use Rattle.judging.proofs.Stages.{order-copies}
+use Rattle.naming.proofs.Named.{order-parts, order-copies}
 use Rattle.entering.proofs.Entered.{order-entered}
 use borrow.Author.Needs.{needs}
 use Rattle.entering.proofs.enter_order.Statement.{statement}

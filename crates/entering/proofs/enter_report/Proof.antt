@@ -1,5 +1,5 @@
 -- `entering::enter_report` meets its contract.
-use Rattle.judging.proofs.Named.{report-article-is}
+use Rattle.naming.proofs.Named.{report-article-is}
 use Rattle.entering.proofs.Entered.{date-is, date-long, report-entered}
 use borrow.Author.Needs.{needs}
 use Rattle.entering.proofs.enter_report.Statement.{statement}

@@ -4,7 +4,7 @@ use lib.ListN.{length}
 use Rattle.record.specs.declared.layout.Kind.the-variants.{Goods}
 use Rattle.book.proofs.Fields.{slip-key-long}
 use Rattle.book.proofs.Finds.{lines-stand, slips-stand, line-stands, slip-stands, line-search, slip-search}
-use Rattle.judging.proofs.Named.{joined-key, wide-key, goods-wide}
+use Rattle.naming.proofs.Named.{joined-key, wide-key, goods-wide}
 use Rattle.judging.proofs.Stages.{slip-again, slip-unknown, slip-arrives}
 use borrow.Author.Needs.{needs}
 use Rattle.judging.proofs.judge.judge_delivery.Statement.{statement}

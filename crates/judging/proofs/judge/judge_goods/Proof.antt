@@ -3,8 +3,8 @@ use mathlib.Core.Path.{sym, _∙_}
 use native.Mathlib.Omega.{arith}
 use Rattle.rules.proofs.Parts.{part-most}
 use Rattle.record.specs.declared.layout.Kind.the-variants.{Goods}
-use Rattle.judging.proofs.Named.{goods-school-is}
-use Rattle.judging.proofs.Stages.{goods-copies, goods-blank, slip-blank, none-copies, some-copies, asked, fit-nothing, goods-none, goods-unnamed, goods-off, goods-on}
+use Rattle.naming.proofs.Named.{goods-school-is, goods-copies, goods-blank, slip-blank}
+use Rattle.judging.proofs.Stages.{none-copies, some-copies, asked, fit-nothing, goods-none, goods-unnamed, goods-off, goods-on}
 use borrow.Author.Needs.{needs}
 use Rattle.judging.proofs.judge.judge_goods.Statement.{statement}
 use Rattle.judging.proofs.judge.judge_goods.Tie as tie

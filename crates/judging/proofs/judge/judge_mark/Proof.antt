@@ -2,7 +2,7 @@
 use mathlib.Core.Path.{sym}
 use Rattle.record.specs.declared.layout.Kind.the-variants.{Report}
 use Rattle.book.proofs.Finds.{lines-stand, line-search}
-use Rattle.judging.proofs.Named.{joined-key, wide-key, report-wide}
+use Rattle.naming.proofs.Named.{joined-key, wide-key, report-wide}
 use Rattle.judging.proofs.Stages.{mark-unknown, mark-fits}
 use borrow.Author.Needs.{needs}
 use Rattle.judging.proofs.judge.judge_mark.Statement.{statement}

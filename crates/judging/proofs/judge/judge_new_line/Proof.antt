@@ -2,7 +2,7 @@
 use mathlib.Core.Path.{sym}
 use Rattle.record.specs.declared.layout.Kind.the-variants.{Order}
 use Rattle.book.proofs.Finds.{lines-stand, line-search}
-use Rattle.judging.proofs.Named.{joined-key, wide-key, order-school-is, order-wide}
+use Rattle.naming.proofs.Named.{joined-key, wide-key, order-school-is, order-wide}
 use Rattle.judging.proofs.Stages.{new-exists, new-line}
 use borrow.Author.Needs.{needs}
 use Rattle.judging.proofs.judge.judge_new_line.Statement.{statement}

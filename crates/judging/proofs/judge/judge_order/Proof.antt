@@ -2,8 +2,8 @@
 use mathlib.Core.Path.{sym, _∙_}
 use native.Mathlib.Omega.{arith}
 use Rattle.rules.proofs.Parts.{part-most}
-use Rattle.judging.proofs.Named.{order-school-is}
-use Rattle.judging.proofs.Stages.{order-copies, order-blank, none-copies, some-copies, asked, order-none, order-unnamed, order-off, order-on}
+use Rattle.naming.proofs.Named.{order-school-is, order-copies, order-blank}
+use Rattle.judging.proofs.Stages.{none-copies, some-copies, asked, order-none, order-unnamed, order-off, order-on}
 use borrow.Author.Needs.{needs}
 use Rattle.judging.proofs.judge.judge_order.Statement.{statement}
 use Rattle.judging.proofs.judge.judge_order.Tie as tie

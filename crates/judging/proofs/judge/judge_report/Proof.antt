@@ -1,7 +1,7 @@
 -- `judging::judge::judge_report` meets its contract: 12, 24, 16.
 use mathlib.Core.Path.{sym, _∙_}
-use Rattle.judging.proofs.Named.{report-school-is}
-use Rattle.judging.proofs.Stages.{report-blank, asked, report-unnamed, report-off, report-on}
+use Rattle.naming.proofs.Named.{report-school-is, report-blank}
+use Rattle.judging.proofs.Stages.{asked, report-unnamed, report-off, report-on}
 use borrow.Author.Needs.{needs}
 use Rattle.judging.proofs.judge.judge_report.Statement.{statement}
 use Rattle.judging.proofs.judge.judge_report.Tie as tie

@@ -1,11 +1,11 @@
--- `judging::judge::judge_room` meets its contract: 25 before 15.
+-- `placing::judge_room` meets its contract: 25 before 15.
 use mathlib.Core.Path.{sym}
 use native.Mathlib.Omega.{arith}
 use Rattle.book.proofs.Opens.{lines-open, open-sum, open-below}
-use Rattle.judging.proofs.Stages.{room-passed, room-fits, room-full}
+use Rattle.placing.proofs.Placed.{room-passed, room-fits, room-full}
 use borrow.Author.Needs.{needs}
-use Rattle.judging.proofs.judge.judge_room.Statement.{statement}
-use Rattle.judging.proofs.judge.judge_room.Tie as tie
+use Rattle.placing.proofs.judge_room.Statement.{statement}
+use Rattle.placing.proofs.judge_room.Tie as tie
 
 element-copy-out-count : tie.Need-element-copy-out-count
 element-copy-out-count c = search needs

@@ -1,4 +1,4 @@
-// The keys that a record names, by their fields where these stand in it.
+// What a record names: keys, by their fields where these stand in it.
 ghost use mathlib.Core.Path.{_≡_};
 ghost use mathlib.Core.List.{[], _∷_, map};
 ghost use Prim.Native.Nat.{_+_, _≤_};

@@ -1,10 +1,10 @@
--- `judging::keys::goods_key` meets its contract: the fields stand where the layout has them.
+-- `naming::order_key` meets its contract: the fields stand where the layout has them.
 use native.Mathlib.Omega.{arith}
 use Rattle.record.specs.Layout.{layout, total, startOf, fixedWidth}
 use Rattle.record.specs.Values.{fieldBytes}
 use Rattle.book.specs.Booking.{keyFields}
-use Rattle.judging.proofs.keys.goods_key.Statement.{statement}
-use Rattle.judging.proofs.keys.goods_key.Tie as tie
+use Rattle.naming.proofs.order_key.Statement.{statement}
+use Rattle.naming.proofs.order_key.Tie as tie
 
 key-at-requires : tie.Need-key-at-requires
 unfolding fixedWidth total layout
@@ -14,5 +14,5 @@ returns : tie.Need-returns
 unfolding keyFields fieldBytes startOf total layout
 returns c = c .key-at .ensures
 
-pub goods-key-spec : {M : Type 1} → statement M
-goods-key-spec = tie.close (tie.spec key-at-requires returns)
+pub order-key-spec : {M : Type 1} → statement M
+order-key-spec = tie.close (tie.spec key-at-requires returns)

@@ -1,10 +1,10 @@
--- `judging::keys::report_key` meets its contract: the fields stand where the layout has them.
+-- `naming::report_key` meets its contract: the fields stand where the layout has them.
 use native.Mathlib.Omega.{arith}
 use Rattle.record.specs.Layout.{layout, total, startOf, fixedWidth}
 use Rattle.record.specs.Values.{fieldBytes}
 use Rattle.book.specs.Booking.{keyFields}
-use Rattle.judging.proofs.keys.report_key.Statement.{statement}
-use Rattle.judging.proofs.keys.report_key.Tie as tie
+use Rattle.naming.proofs.report_key.Statement.{statement}
+use Rattle.naming.proofs.report_key.Tie as tie
 
 key-at-requires : tie.Need-key-at-requires
 unfolding fixedWidth total layout

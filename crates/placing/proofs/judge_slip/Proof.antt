@@ -1,9 +1,9 @@
--- `judging::judge::judge_slip` meets its contract: 17 where line key and quantity are the same, else 18.
+-- `placing::judge_slip` meets its contract: 17 where line key and quantity are the same, else 18.
 use mathlib.Core.Path.{sym}
-use Rattle.judging.proofs.Stages.{slip-same, slip-other}
+use Rattle.placing.proofs.Placed.{slip-same, slip-other}
 use borrow.Author.Needs.{needs}
-use Rattle.judging.proofs.judge.judge_slip.Statement.{statement}
-use Rattle.judging.proofs.judge.judge_slip.Tie as tie
+use Rattle.placing.proofs.judge_slip.Statement.{statement}
+use Rattle.placing.proofs.judge_slip.Tie as tie
 
 slip-line-requires : tie.Need-slip-line-requires
 slip-line-requires c κs = search needs

@@ -1,11 +1,11 @@
--- `judging::keys::key_at` meets its contract: each part that is taken is a field.
+-- `naming::key_at` meets its contract: each part that is taken is a field.
 use mathlib.Core.Path.{_≡_, refl}
 use Prim.Native.Nat.{_+_}
 use native.Mathlib.Omega.{arith}
 use Rattle.cells.proofs.Parts.{part-is}
 use borrow.Author.Needs.{needs}
-use Rattle.judging.proofs.keys.key_at.Statement.{statement}
-use Rattle.judging.proofs.keys.key_at.Tie as tie
+use Rattle.naming.proofs.key_at.Statement.{statement}
+use Rattle.naming.proofs.key_at.Tie as tie
 
 add-school-qualifier : tie.Need-add-school-qualifier
 add-school-qualifier c = search needs

@@ -1,6 +1,6 @@
--- The keys and the article that a record names are parts of its bytes, and the fields of keys have their lengths.
+-- The keys, the article and the quantity that a record names are parts of its bytes, and the fields of keys have their lengths.
 use mathlib.Core.Path.{_≡_, _∙_, ap, ap₂, sym, refl}
-use mathlib.Core.Bool.{true}
+use mathlib.Core.Bool.{true, Bool}
 use mathlib.Core.List.{List, [], _∷_, _++_, append-assoc, append-nil}
 use Prim.Native.Nat.{ℕ, _+_, _≤_}
 use lib.ListN.{length}
@@ -12,8 +12,12 @@ use Rattle.record.specs.Values.{fieldBytes}
 use Rattle.record.specs.declared.layout.Kind.{Kind}
 use Rattle.record.specs.declared.layout.Kind.the-variants.{Order, Goods, Report}
 use Rattle.book.specs.Asked.{keyWidths, areWide}
-use Rattle.book.specs.Booking.{fieldsIn, keyFields, lineKey, articleFields, articleIn, slipKey, schoolIn}
+use Rattle.book.specs.Booking.{fieldsIn, keyFields, lineKey, articleFields, articleIn, slipKey, schoolIn, copiesIn, nothingToBook, noReference}
 use Rattle.book.proofs.Fields.{fields-wide}
+use Rattle.rules.specs.Class.{allOf}
+use Rattle.rules.specs.Values.{copiesOf}
+use Rattle.rules.specs.declared.amount.Copies.{Copies}
+use Rattle.rules.specs.declared.class.Class.the-variants.{Blank}
 
 -- a part and the part after it, before a rest
 join : (at n m : ℕ) (s rest : List ℕ) → slice at (at + n) s ++ (slice (at + n) (at + n + m) s ++ rest) ≡ slice at (at + (n + m)) s ++ rest
@@ -83,3 +87,29 @@ module _ (s : List ℕ) where
   pub report-wide : fixedWidth Report ≤ length s → areWide keyWidths (fieldsIn Report (keyFields Report) s) ≡ true
   unfolding keyFields layout all
   report-wide h = fields-wide Report s h (3 ∷ 4 ∷ 1 ∷ 2 ∷ 6 ∷ []) refl
+
+-- the quantity, and whether a field is blank, as the code takes them from their places
+module _ (s : List ℕ) {p : List ℕ} where
+  pub order-copies : {n : Copies} → n ≡ copiesOf p → p ≡ slice 61 65 s → n ≡ copiesIn Order s
+  unfolding copiesIn fieldBytes startOf total layout
+  order-copies e h = rw (e, h)
+
+  pub goods-copies : {n : Copies} → n ≡ copiesOf p → p ≡ slice 75 79 s → n ≡ copiesIn Goods s
+  unfolding copiesIn fieldBytes startOf total layout
+  goods-copies e h = rw (e, h)
+
+  pub order-blank : {t : Bool} → t ≡ allOf Blank p → p ≡ slice 36 46 s → t ≡ noReference Order s
+  unfolding noReference fieldBytes startOf total layout
+  order-blank e h = rw (e, h)
+
+  pub goods-blank : {t : Bool} → t ≡ allOf Blank p → p ≡ slice 50 60 s → t ≡ noReference Goods s
+  unfolding noReference fieldBytes startOf total layout
+  goods-blank e h = rw (e, h)
+
+  pub slip-blank : {t : Bool} → t ≡ allOf Blank p → p ≡ slice 36 46 s → t ≡ nothingToBook Goods s
+  unfolding nothingToBook fieldBytes startOf total layout
+  slip-blank e h = rw (e, h)
+
+  pub report-blank : {t : Bool} → t ≡ allOf Blank p → p ≡ slice 38 48 s → t ≡ noReference Report s
+  unfolding noReference fieldBytes startOf total layout
+  report-blank e h = rw (e, h)

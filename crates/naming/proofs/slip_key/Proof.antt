@@ -1,9 +1,9 @@
--- `judging::keys::slip_key` meets its contract.
+-- `naming::slip_key` meets its contract.
 use mathlib.Core.Path.{_∙_, sym}
-use Rattle.judging.proofs.Named.{slip-key-is}
+use Rattle.naming.proofs.Named.{slip-key-is}
 use borrow.Author.Needs.{needs}
-use Rattle.judging.proofs.keys.slip_key.Statement.{statement}
-use Rattle.judging.proofs.keys.slip_key.Tie as tie
+use Rattle.naming.proofs.slip_key.Statement.{statement}
+use Rattle.naming.proofs.slip_key.Tie as tie
 
 part-requires : tie.Need-part-requires
 part-requires c κs = search needs

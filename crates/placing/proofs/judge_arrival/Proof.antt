@@ -1,10 +1,10 @@
--- `judging::judge::judge_arrival` meets its contract: 21 before 19.
+-- `placing::judge_arrival` meets its contract: 21 before 19.
 use mathlib.Core.Path.{sym}
 use native.Mathlib.Omega.{arith}
-use Rattle.judging.proofs.Stages.{arrival-many, arrival-fits, arrival-full}
+use Rattle.placing.proofs.Placed.{arrival-many, arrival-fits, arrival-full}
 use borrow.Author.Needs.{needs}
-use Rattle.judging.proofs.judge.judge_arrival.Statement.{statement}
-use Rattle.judging.proofs.judge.judge_arrival.Tie as tie
+use Rattle.placing.proofs.judge_arrival.Statement.{statement}
+use Rattle.placing.proofs.judge_arrival.Tie as tie
 
 read-line-requires : tie.Need-read-line-requires
 read-line-requires c κs = search needs
