@@ -98,6 +98,7 @@ fault_everywhere() {
     orders_afresh
     order_injected "fsync:error=EIO:when=$last"
     expect_code 3 "the book may not be on the disk"
+    expect_err "/fault/: cannot put the directory on the disk: Input/output error" "the book may not be on the disk"
     expect_err "out: orders may wait here that are not put out" "the book may not be on the disk"
     expect_err "/o: the book is saved" "the book may not be on the disk"
     [ -z "$(ls fault/out)" ] || fail "the book may not be on the disk, and its orders are out"
