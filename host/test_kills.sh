@@ -191,6 +191,9 @@ orders_that_wait() {
     # Their book goes to the disk before they are put out; then all is as in an order.
     orders_afresh
     order_injected "$put_out:signal=SIGKILL"
+    order_injected "fsync:error=EIO:when=1"
+    expect_code 2 "orders put out late, though their book may not be on the disk"
+    [ -z "$(ls fault/out)" ] || fail "orders put out late, though their book may not be on the disk: they are out"
     order_injected ""
     expect_code 1 "orders put out late, traced"
     list_points | awk '/^fsync/ { print "sync", $4 } /^rename/ { print $1 }' | sed 's/renameat2/name/;s/^rename.*/rename/' | tr '\n' ' ' >got
