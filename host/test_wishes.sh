@@ -466,7 +466,8 @@ expect_same ordered.txt wanted "letters, UTF-8 with its mark"
   printf '43210;24000;A-3;1;1;a\tb\177;\001\n'
   printf '43210;24000;A-3;1;1;"a\rb\001";\n'
   printf '43210\177;24000;A-3;1;1;;\n'
-  printf '\000\n\357\273\27743210;24000;A-3;1;1\n'; } >wishes.csv
+  printf '\000\n\357\273\27743210;24000;A-3;1;1\n'
+  printf '43210;24000;A-3;1;1;\303\274\342\202\254~ *;\n'; } >wishes.csv
 order_wishes wishes.csv
 no_sign='which is no letter or sign'
 expect_came "2 refused: column 8888: the letter č (U+010D) is not one of Windows-1252
@@ -481,7 +482,8 @@ expect_came "2 refused: column 8888: the letter č (U+010D) is not one of Window
 11 refused: column 8888: a\\x0Db\\x01 holds a line end, $no_sign
 13 refused: column school: 43210\\x7F holds the byte \\x7F, $no_sign
 14 refused: column article: empty is not what it may hold: $any
-15 refused: column school: the letter $(printf '\357\273\277') (U+FEFF) is not one of Windows-1252" "letters that a record cannot hold"
+15 refused: column school: the letter $(printf '\357\273\277') (U+FEFF) is not one of Windows-1252
+16 refused: column 8888: ü€~ * is not what it may hold: any signs, but no *" "letters that a record cannot hold"
 expect_not "UTF-8" err "letters that a record cannot hold"
 { printf '%s;8888\n' "$needed"
   for byte in 201 215 217 220 235; do printf '43210;24000;A-1;1;1;x'; printf "\\$byte"; printf '\n'; done; } >wishes.csv
