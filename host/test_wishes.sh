@@ -466,7 +466,8 @@ expect_same ordered.txt wanted "letters, UTF-8 with its mark"
   printf '43210;24000;A-3;1;1;a\tb\177;\001\n'
   printf '43210;24000;A-3;1;1;"a\rb\001";\n'
   printf '43210\177;24000;A-3;1;1;;\n'
-  printf '\000\n\357\273\27743210;24000;A-3;1;1\n'; } >wishes.csv
+  printf '\000\n\357\273\27743210;24000;A-3;1;1\n'
+  printf '43210;24000;A-3;1;1;\303\274\342\202\254~ *;\n'; } >wishes.csv
 order_wishes wishes.csv
 no_sign='which is no letter or sign'
 expect_came "2 refused: column 8888: the letter č (U+010D) is not one of Windows-1252
@@ -481,7 +482,8 @@ expect_came "2 refused: column 8888: the letter č (U+010D) is not one of Window
 11 refused: column 8888: a\\x0Db\\x01 holds a line end, $no_sign
 13 refused: column school: 43210\\x7F holds the byte \\x7F, $no_sign
 14 refused: column article: empty is not what it may hold: $any
-15 refused: column school: the letter $(printf '\357\273\277') (U+FEFF) is not one of Windows-1252" "letters that a record cannot hold"
+15 refused: column school: the letter $(printf '\357\273\277') (U+FEFF) is not one of Windows-1252
+16 refused: column 8888: ü€~ * is not what it may hold: any signs, but no *" "letters that a record cannot hold"
 expect_not "UTF-8" err "letters that a record cannot hold"
 { printf '%s;8888\n' "$needed"
   for byte in 201 215 217 220 235; do printf '43210;24000;A-1;1;1;x'; printf "\\$byte"; printf '\n'; done; } >wishes.csv
@@ -509,6 +511,12 @@ order_wishes wishes.csv
 expect_err "wishes.csv: line 3: a letter of UTF-8 stands here, but the file is not UTF-8 as a whole" "a mark of Windows-1252 and a letter of UTF-8"
 expect_came "2 B10143210     VD24000     VD${today}$(printf '\226')1        1            UM0001ST*9999
 3 B10143210     VD24000     VD${today}$(printf '\303\274')        1            UM0001ST*9999" "a mark of Windows-1252 and a letter of UTF-8"
+# Overlong letters, half letters, letters beyond the last one and cut ones are none.
+none='\301\274 \340\203\274 \360\202\202\254 \355\240\200 \364\221\200\200 \365\202\202\202 \303 \342\202 \342\202'
+printf "%s;8888\n43210;24000;A-1;1;1;$none\n" "$needed" >wishes.csv
+order_wishes wishes.csv
+expect_code 0 "letters that are none"
+expect_came "2 B10143210     VD24000     VD${today}A-1       1            UM0001ST*8888$(printf "$none")*9999" "letters that are none"
 printf '\357\273\277%s;1003\r43210;24000;A-1;1;1;\303\274\r43210;24000;A-2;1;1;\374\r43210;24000;A-3;1;1;\374\r' "$needed" >wishes.csv
 wrong_wishes "the mark of UTF-8 and other bytes" "wishes.csv: line 3: this is not UTF-8, though the file has its mark at the front"
 for mark in '\377\376' '\376\377'; do
