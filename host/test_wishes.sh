@@ -23,7 +23,7 @@ came_of() {
         { sub(/^[^:]*:/, ""); line = $1 }
         $3 == 0 { print line, records[++taken]; next }
         $2 != "refused:" || $3 != "B101" { print; next }
-        { column = index($0, ", column "); print line, $4 (column ? substr($0, column) : "") }' out
+        { column = index($0, " | column "); print line, $4 (column ? substr($0, column) : "") }' out
 }
 expect_came() {     # what should come of each wish; what it is
     came_of >got
@@ -81,7 +81,7 @@ expect_out "wishes: 7 ordered, 18 refused" "accounts and defaults"
 24000;43210;19.02.2024;D-3;1;;9999 => B10143210     VD24000     VD20240219D-3       1            UM9999ST*9999
 24000;43210;9.2.2024;D-4;1;;010 => B10143210     VD24000     VD20240209D-4       1            UM0010ST*9999
 24000;43210;09.2.0001;D-5;1;;0000000123 => B10143210     VD24000     VD00010209D-5       1            UM0123ST*9999
-24000;43210;1.12.9999;D-6;1;;00000 => 11, column quantity: a number of 1 to 9999
+24000;43210;1.12.9999;D-6;1;;00000 => 11 | column quantity: a number of 1 to 9999
 24000;43210;;D;1;; => refused: column quantity: empty is not what it may hold: a number of 1 to 9999
 24000;43210;;D;1; => refused: column quantity: empty is not what it may hold: a number of 1 to 9999
 CASES
@@ -164,11 +164,11 @@ school;supplier;reference;article;quantity
 WISHES
 order_wishes wishes.csv --roster wish_roster.txt
 expect_came "2 B10143210     VD24000     VD${today}A-1       1            UM0003ST*9999
-3 14, column reference: another one, since this school has it with this supplier already
-4 25, column quantity: fewer copies
-5 24, column school: one of the roster
-6 12, column reference: 1 to 10 signs, none of them * + : ? '
-7 11, column quantity: a number of 1 to 9999" "answers of the book"
+3 14 | column reference: another one, since this school has it with this supplier already
+4 25 | column quantity: fewer copies
+5 24 | column school: one of the roster
+6 12 | column reference: 1 to 10 signs, none of them * + : ? '
+7 11 | column quantity: a number of 1 to 9999" "answers of the book"
 
 # --- optional fields: as they stand, each with its words --------------------------------------------------
 guarded="none of them * + : ? '"
