@@ -165,7 +165,7 @@ orders_that_wait() {
     rm -rf fault && mv kept_fault fault
     cp kept.wait "fault/out/$wait"
     # A directory that cannot be read may hold orders that wait.
-    run_injected "getdents64:error=EIO:when=1" order o more.csv elsewhere
+    run_injected "getdents64:error=EIO:when=$(awk '$1 == "getdents64" { print $2; exit }' order_points)" order o more.csv elsewhere
     expect_code 2 "a directory of orders that wait that cannot be read"
     expect_err "/fault/out: cannot look for the orders that wait: Input/output error" "a directory of orders that wait that cannot be read"
     [ -z "$(ls fault/out)$(ls -A fault/elsewhere)" ] || fail "a directory of orders that wait that cannot be read: something is out"
