@@ -93,7 +93,7 @@ expect_out "wishes: 1 ordered, 4 refused" "wishes of which some are new"
 expect_out "today.csv:2 refused: B101 14" "wishes of which some are new"
 expect_out "today.csv:4 refused: B101 14" "the same wish twice"
 expect_out "today.csv:5 refused: B101 11 the quantity is 0" "a wish of no copies"
-expect_out "quantity 0000, column quantity: " "a wish of no copies"
+expect_out "quantity 0000 | column quantity: " "a wish of no copies"
 expect_out "today.csv:6 refused: " "a wish without a reference"
 
 # --- no wish is accepted: no file, and the list is known ---------------------------------------------------------

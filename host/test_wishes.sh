@@ -23,7 +23,7 @@ came_of() {
         { sub(/^[^:]*:/, ""); line = $1 }
         $3 == 0 { print line, records[++taken]; next }
         $2 != "refused:" || $3 != "B101" { print; next }
-        { column = index($0, ", column "); print line, $4 (column ? substr($0, column) : "") }' out
+        { column = index($0, " | column "); print line, $4 (column ? substr($0, column) : "") }' out
 }
 expect_came() {     # what should come of each wish; what it is
     came_of >got
@@ -81,7 +81,7 @@ expect_out "wishes: 7 ordered, 18 refused" "accounts and defaults"
 24000;43210;19.02.2024;D-3;1;;9999 => B10143210     VD24000     VD20240219D-3       1            UM9999ST*9999
 24000;43210;9.2.2024;D-4;1;;010 => B10143210     VD24000     VD20240209D-4       1            UM0010ST*9999
 24000;43210;09.2.0001;D-5;1;;0000000123 => B10143210     VD24000     VD00010209D-5       1            UM0123ST*9999
-24000;43210;1.12.9999;D-6;1;;00000 => 11, column quantity: a number of 1 to 9999
+24000;43210;1.12.9999;D-6;1;;00000 => 11 | column quantity: a number of 1 to 9999
 24000;43210;;D;1;; => refused: column quantity: empty is not what it may hold: a number of 1 to 9999
 24000;43210;;D;1; => refused: column quantity: empty is not what it may hold: a number of 1 to 9999
 CASES
@@ -164,11 +164,11 @@ school;supplier;reference;article;quantity
 WISHES
 order_wishes wishes.csv --roster wish_roster.txt
 expect_came "2 B10143210     VD24000     VD${today}A-1       1            UM0003ST*9999
-3 14, column reference: another one, since this school has it with this supplier already
-4 25, column quantity: fewer copies
-5 24, column school: one of the roster
-6 12, column reference: 1 to 10 signs, none of them * + : ? '
-7 11, column quantity: a number of 1 to 9999" "answers of the book"
+3 14 | column reference: another one, since this school has it with this supplier already
+4 25 | column quantity: fewer copies
+5 24 | column school: one of the roster
+6 12 | column reference: 1 to 10 signs, none of them * + : ? '
+7 11 | column quantity: a number of 1 to 9999" "answers of the book"
 
 # --- optional fields: as they stand, each with its words --------------------------------------------------
 guarded="none of them * + : ? '"
@@ -466,7 +466,8 @@ expect_same ordered.txt wanted "letters, UTF-8 with its mark"
   printf '43210;24000;A-3;1;1;a\tb\177;\001\n'
   printf '43210;24000;A-3;1;1;"a\rb\001";\n'
   printf '43210\177;24000;A-3;1;1;;\n'
-  printf '\000\n\357\273\27743210;24000;A-3;1;1\n'; } >wishes.csv
+  printf '\000\n\357\273\27743210;24000;A-3;1;1\n'
+  printf '43210;24000;A-3;1;1;\303\274\342\202\254~ *;\n'; } >wishes.csv
 order_wishes wishes.csv
 no_sign='which is no letter or sign'
 expect_came "2 refused: column 8888: the letter č (U+010D) is not one of Windows-1252
@@ -481,7 +482,8 @@ expect_came "2 refused: column 8888: the letter č (U+010D) is not one of Window
 11 refused: column 8888: a\\x0Db\\x01 holds a line end, $no_sign
 13 refused: column school: 43210\\x7F holds the byte \\x7F, $no_sign
 14 refused: column article: empty is not what it may hold: $any
-15 refused: column school: the letter $(printf '\357\273\277') (U+FEFF) is not one of Windows-1252" "letters that a record cannot hold"
+15 refused: column school: the letter $(printf '\357\273\277') (U+FEFF) is not one of Windows-1252
+16 refused: column 8888: ü€~ * is not what it may hold: any signs, but no *" "letters that a record cannot hold"
 expect_not "UTF-8" err "letters that a record cannot hold"
 { printf '%s;8888\n' "$needed"
   for byte in 201 215 217 220 235; do printf '43210;24000;A-1;1;1;x'; printf "\\$byte"; printf '\n'; done; } >wishes.csv
@@ -509,6 +511,12 @@ order_wishes wishes.csv
 expect_err "wishes.csv: line 3: a letter of UTF-8 stands here, but the file is not UTF-8 as a whole" "a mark of Windows-1252 and a letter of UTF-8"
 expect_came "2 B10143210     VD24000     VD${today}$(printf '\226')1        1            UM0001ST*9999
 3 B10143210     VD24000     VD${today}$(printf '\303\274')        1            UM0001ST*9999" "a mark of Windows-1252 and a letter of UTF-8"
+# Overlong letters, half letters, letters beyond the last one and cut ones are none.
+none='\301\274 \340\203\274 \360\202\202\254 \355\240\200 \364\221\200\200 \365\202\202\202 \303 \342\202 \342\202'
+printf "%s;8888\n43210;24000;A-1;1;1;$none\n" "$needed" >wishes.csv
+order_wishes wishes.csv
+expect_code 0 "letters that are none"
+expect_came "2 B10143210     VD24000     VD${today}A-1       1            UM0001ST*8888$(printf "$none")*9999" "letters that are none"
 printf '\357\273\277%s;1003\r43210;24000;A-1;1;1;\303\274\r43210;24000;A-2;1;1;\374\r43210;24000;A-3;1;1;\374\r' "$needed" >wishes.csv
 wrong_wishes "the mark of UTF-8 and other bytes" "wishes.csv: line 3: this is not UTF-8, though the file has its mark at the front"
 for mark in '\377\376' '\376\377'; do

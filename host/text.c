@@ -44,8 +44,8 @@ size_t line_end(const uint8_t *text)
 
 int is_sign(uint8_t byte)
 {
-    return byte >= FIRST_LATIN || (byte >= FIRST_WINDOWS && windows[byte - FIRST_WINDOWS] != NULL) ||
-           (byte >= FIRST_ASCII && byte <= LAST_ASCII);
+    return byte >= FIRST_LATIN || (byte >= FIRST_ASCII && byte <= LAST_ASCII) ||
+           (byte >= FIRST_WINDOWS && windows[byte - FIRST_WINDOWS] != NULL);
 }
 
 /* One byte of a field as text; gives the number of bytes written. */

@@ -158,8 +158,8 @@ static const struct { const char *qualifier, *may_hold; } articles[] = {
     {"RK", "three digits, blanks and five digits (RK)"}
 };
 
-#define ANY_ARTICLE "13 digits of an EAN (EN), 10 signs of an ISBN (IB), three digits, blanks and " \
-    "five digits (RK), 7 or 8 digits (KN), or 1 to 13 digits (UM)"
+#define ANY_ARTICLE "13 digits of an EAN (EN), 10 signs of an ISBN (IB), three digits, blanks " \
+    "and five digits (RK), 7 or 8 digits (KN), or 1 to 13 digits (UM)"
 
 /* Whether the form of a number tells its qualifier, and if not, why. An EAN, an ISBN and RK are
    told before, where they are right. */

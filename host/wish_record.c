@@ -87,7 +87,7 @@ void print_column_of(FILE *to, uint64_t answer)
     for (size_t i = 0; i < sizeof deciding / sizeof deciding[0]; i++) {
         const struct fixed_field *field = &fixed_fields[deciding[i].field];
         if (deciding[i].answer == answer)
-            fprintf(to, ", column %s: %s", field->name,
+            fprintf(to, " | column %s: %s", field->name,
                     deciding[i].words == NULL ? field->may_hold : deciding[i].words);
     }
 }

@@ -23,7 +23,7 @@ struct order {
 enum wish_result wish_record(const struct wish_list *list, const struct wish *wish,
                              const char *today, struct order *order, FILE *why);
 
-/* Of an order that the book refuses: prints ", column C: what it may hold" where one column
+/* Of an order that the book refuses: prints " | column C: what it may hold" where one column
    decides the answer, else nothing. */
 void print_column_of(FILE *to, uint64_t answer);
 

@@ -4,7 +4,7 @@ use mathlib.Core.Bool.{true, false}
 use mathlib.Core.List.{List, [], _∷_}
 use Prim.Native.Nat.{ℕ}
 use Rattle.cells.specs.Bytes.{bytes, same, all}
-use Rattle.rules.specs.Class.{belongs, allOf, ofClass}
+use Rattle.signs.specs.Class.{belongs, allOf, ofClass}
 use Rattle.rules.specs.Number.{numberFrom}
 use Rattle.record.specs.Layout.{layout, total as widthOf, startOf, kindOf}
 use Rattle.record.specs.Values.{fieldBytes}

@@ -12,13 +12,13 @@ use lib.ListN.{length, getD, length-append}
 use Rattle.cells.specs.Bytes.{all, bytes, same, within, joined}
 use Rattle.cells.proofs.Bools.{split, and-left, and-right}
 use Rattle.cells.proofs.Lists.{joined-append}
-use Rattle.rules.specs.Class.{belongs, allOf, ofClass}
+use Rattle.signs.specs.Class.{belongs, allOf, ofClass}
 use Rattle.rules.specs.Number.{number}
 use Rattle.rules.specs.Day.{dayWidth}
 use Rattle.rules.specs.Rule.{expected, keeps}
-use Rattle.rules.specs.declared.class.Class.the-variants.{Digit}
+use Rattle.signs.specs.declared.Class.the-variants.{Digit}
 use Rattle.rules.proofs.Digits.{width}
-use Rattle.rules.proofs.Fits.{at-most}
+use Rattle.signs.proofs.Fits.{at-most}
 use Rattle.record.specs.Layout.{noField, layout, fixedWidth}
 use Rattle.record.specs.Values.{fieldBytes}
 use Rattle.record.specs.declared.layout.Kind.{Kind}

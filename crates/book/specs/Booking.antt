@@ -10,11 +10,11 @@ use Rattle.cells.specs.declared.search.Found.the-variants.{At, Nothing}
 use Rattle.roster.specs.Roster.{rosterSound, standing}
 use Rattle.roster.specs.declared.Standing.{Standing}
 use Rattle.roster.specs.declared.Standing.the-variants.{On, Off}
-use Rattle.rules.specs.Class.{allOf}
+use Rattle.signs.specs.Class.{allOf}
 use Rattle.rules.specs.Number.{number}
 use Rattle.rules.specs.Values.{copies, copiesOf, expectedOf}
 use Rattle.rules.specs.declared.amount.Copies.{Copies}
-use Rattle.rules.specs.declared.class.Class.the-variants.{Blank}
+use Rattle.signs.specs.declared.Class.the-variants.{Blank}
 use Rattle.record.specs.Layout.{kindOf}
 use Rattle.record.specs.Answers.{refusalNumber, refusalPlace}
 use Rattle.record.specs.Values.{fieldBytes}

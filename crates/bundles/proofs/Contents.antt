@@ -12,11 +12,11 @@ use lib.Seq.{take-all}
 use Rattle.cells.specs.Bytes.{pick, bytes, within, all, same, among}
 use Rattle.cells.proofs.Bools.{split, and-left, and-right}
 use Rattle.cells.proofs.Lists.{same-true}
-use Rattle.rules.specs.Class.{digit, belongs, allOf, ofClass}
+use Rattle.signs.specs.Class.{digit, belongs, allOf, ofClass}
 use Rattle.rules.specs.Number.{number}
 use Rattle.rules.specs.Rule.{texts, keeps}
-use Rattle.rules.specs.declared.class.Class.{Class}
-use Rattle.rules.specs.declared.class.Class.the-variants.{Any, Digit, Capital}
+use Rattle.signs.specs.declared.Class.{Class}
+use Rattle.signs.specs.declared.Class.the-variants.{Any, Digit, Capital}
 use Rattle.rules.specs.declared.rule.Texts.the-variants.{PartTax, Medium}
 use Rattle.rules.specs.declared.rule.Rule.the-variants.{Of, OneOf}
 use Rattle.rules.proofs.Digits.{width}

@@ -10,9 +10,9 @@ use lib.Seq.{slice, take-append-le}
 use Rattle.cells.specs.Bytes.{pick, bytes, same}
 use Rattle.cells.proofs.Bools.{split}
 use Rattle.cells.proofs.Lists.{same-true}
-use Rattle.rules.specs.Class.{ofClass}
+use Rattle.signs.specs.Class.{ofClass}
 use Rattle.rules.specs.Day.{dayWidth}
-use Rattle.rules.specs.declared.class.Class.the-variants.{Zero}
+use Rattle.signs.specs.declared.Class.the-variants.{Zero}
 use Rattle.record.specs.Layout.{kindWidth, dateStart, layout, total, fixedWidth, kindOf}
 use Rattle.record.specs.declared.layout.Kind.{Kind}
 use Rattle.record.specs.declared.layout.Kind.the-variants.{Goods, Closing}

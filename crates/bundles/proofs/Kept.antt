@@ -10,9 +10,9 @@ use lib.Dec.{eqb}
 use lib.ListN.{length, take, drop, getD}
 use Rattle.cells.specs.Bytes.{all, any}
 use Rattle.cells.proofs.Bools.{and-left, and-right}
-use Rattle.rules.specs.Class.{barred, belongs}
+use Rattle.signs.specs.Class.{barred, belongs}
 use Rattle.rules.specs.Rule.{keeps}
-use Rattle.rules.specs.declared.class.Class.the-variants.{Allowed}
+use Rattle.signs.specs.declared.Class.the-variants.{Allowed}
 use Rattle.record.specs.Contents.{contentRule, guarded, contentKept}
 use Rattle.record.specs.Fields.{Optional}
 use Rattle.record.specs.declared.layout.Kind.{Kind}

@@ -12,7 +12,7 @@ use Rattle.cells.specs.Bytes.{pick, bytes, same}
 use Rattle.cells.proofs.Bools.{and-left, and-right}
 use Rattle.rules.specs.Number.{number}
 use Rattle.rules.specs.Rule.{keeps}
-use Rattle.rules.specs.declared.class.Class.the-variants.{Any, Digit, Capital}
+use Rattle.signs.specs.declared.Class.the-variants.{Any, Digit, Capital}
 use Rattle.rules.specs.declared.rule.Texts.the-variants.{PartTax, Medium}
 use Rattle.rules.specs.declared.rule.Rule.the-variants.{Of, OneOf}
 use Rattle.record.specs.Contents.{contents, isIn, ruleIn, contentRule}

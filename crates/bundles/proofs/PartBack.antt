@@ -10,11 +10,11 @@ use lib.ListN.{length, take, drop, getD, replicate, length-take}
 use lib.Seq.{slice, take-all, take-at, length-slice, length-take-le}
 use Rattle.cells.specs.Bytes.{pick, bytes, all, same, among}
 use Rattle.cells.proofs.Bools.{split}
-use Rattle.rules.specs.Class.{belongs}
+use Rattle.signs.specs.Class.{belongs}
 use Rattle.rules.specs.Number.{number}
 use Rattle.rules.specs.Rule.{texts, keeps}
 use Rattle.rules.specs.Values.{priceOf}
-use Rattle.rules.specs.declared.class.Class.the-variants.{Any, Allowed, Digit, Capital}
+use Rattle.signs.specs.declared.Class.the-variants.{Any, Allowed, Digit, Capital}
 use Rattle.rules.specs.declared.rule.Rule.the-variants.{Of, OneOf}
 use Rattle.rules.specs.declared.rule.Texts.the-variants.{Medium as medium}
 use Rattle.rules.specs.declared.amount.Price.{Price}

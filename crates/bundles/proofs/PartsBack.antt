@@ -11,7 +11,7 @@ use lib.Seq.{take-all, take-at, drop-at, drop-drop, getD-drop, length-take-le}
 use Rattle.cells.proofs.Bools.{and-left, and-right}
 use Rattle.rules.specs.Number.{number}
 use Rattle.rules.specs.Rule.{keeps}
-use Rattle.rules.specs.declared.class.Class.the-variants.{Digit}
+use Rattle.signs.specs.declared.Class.the-variants.{Digit}
 use Rattle.rules.specs.declared.rule.Rule.the-variants.{Of}
 use Rattle.record.specs.Contents.{contents, isIn, ruleIn, contentRule}
 use Rattle.record.specs.Fields.{Optional}

@@ -11,8 +11,8 @@ use lib.Seq.{take-at, drop-at, take-append-seam, length-take-le}
 use Rattle.cells.specs.Bytes.{pick, all}
 use Rattle.cells.proofs.Bools.{split, and-left, and-right}
 use Rattle.cells.proofs.Lists.{all-append}
-use Rattle.rules.specs.Class.{belongs}
-use Rattle.rules.specs.declared.class.Class.the-variants.{Allowed}
+use Rattle.signs.specs.Class.{belongs}
+use Rattle.signs.specs.declared.Class.the-variants.{Allowed}
 use Rattle.record.specs.Layout.{fixedWidth, kindOf}
 use Rattle.record.specs.Contents.{noMember}
 use Rattle.record.specs.Fields.{Optional}

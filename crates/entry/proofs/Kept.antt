@@ -15,7 +15,7 @@ use Rattle.cells.proofs.Within.{part-within, front-within}
 use Rattle.cells.proofs.Stores.{sets-before, sets-after, sets-in, sets-part, sets-aside, le-ext, le-in, part-ext, number-ext, front-ext}
 use borrow.Author.Tests.{ne-eqb}
 use Rattle.cells.specs.Bytes.{all, same}
-use Rattle.rules.specs.Class.{allOf, belongs}
+use Rattle.signs.specs.Class.{allOf, belongs}
 use Rattle.rules.specs.Day.{dayWidth, isDay, dated}
 use Rattle.rules.specs.declared.expected.Expected.the-variants.{Blanks}
 use Rattle.rules.specs.Values.{copies, expectedOf}

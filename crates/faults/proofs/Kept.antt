@@ -11,10 +11,10 @@ use lib.ListN.{length}
 use Rattle.cells.specs.Bytes.{bytes, within, all, same, among}
 use Rattle.cells.proofs.Bools.{split, and-left, and-right, and-true, and-false}
 use Rattle.cells.proofs.Lists.{same-true, all-weaker, all-append}
-use Rattle.rules.specs.Class.{belongs, allOf, ofClass}
+use Rattle.signs.specs.Class.{belongs, allOf, ofClass}
 use Rattle.rules.specs.Rule.{texts, keeps}
-use Rattle.rules.specs.declared.class.Class.{Class}
-use Rattle.rules.specs.declared.class.Class.the-variants.{Any, Digit, Capital}
+use Rattle.signs.specs.declared.Class.{Class}
+use Rattle.signs.specs.declared.Class.the-variants.{Any, Digit, Capital}
 use Rattle.rules.specs.declared.rule.Texts.the-variants.{PartTax}
 use Rattle.record.specs.Contents.{contents, isIn, ruleIn, contentRule}
 use Rattle.writing.specs.Digits.{digitsOf, unwritable, numberBytes}

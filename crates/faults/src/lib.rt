@@ -22,10 +22,10 @@ use parts::entry::PRICE_WIDTH;
 use parts::fit::ARTICLE_WIDTH;
 use parts::fit::MOST_DIGITS;
 use parts::loops::LOOP_FIELDS;
-use rules::class::Class;
-use rules::class::of_class;
 use rules::rule::Texts;
 use rules::rule::is_one_of;
+use signs::Class;
+use signs::of_class;
 use writing::entries::is_content;
 
 // The fewest digits of an amount.

@@ -40,8 +40,8 @@ use roster::Standing;
 use roster::standing_on;
 use rules::amount::Copies;
 use rules::amount::copies_of;
-use rules::class::Class;
-use rules::class::all_of;
+use signs::Class;
+use signs::all_of;
 
 // 14, then 25 and 15.
 fn judge_new_line(

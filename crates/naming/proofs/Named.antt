@@ -14,10 +14,10 @@ use Rattle.record.specs.declared.layout.Kind.the-variants.{Order, Goods, Report
 use Rattle.book.specs.Asked.{keyWidths, areWide}
 use Rattle.book.specs.Booking.{fieldsIn, keyFields, lineKey, articleFields, articleIn, slipKey, schoolIn, copiesIn, nothingToBook, noReference}
 use Rattle.book.proofs.Fields.{fields-wide}
-use Rattle.rules.specs.Class.{allOf}
+use Rattle.signs.specs.Class.{allOf}
 use Rattle.rules.specs.Values.{copiesOf}
 use Rattle.rules.specs.declared.amount.Copies.{Copies}
-use Rattle.rules.specs.declared.class.Class.the-variants.{Blank}
+use Rattle.signs.specs.declared.Class.the-variants.{Blank}
 
 -- a part and the part after it, before a rest
 join : (at n m : ℕ) (s rest : List ℕ) → slice at (at + n) s ++ (slice (at + n) (at + n + m) s ++ rest) ≡ slice at (at + (n + m)) s ++ rest

@@ -27,7 +27,7 @@ use parts::entry::PRICE_QUALIFIER;
 use parts::entry::PRICE_WIDTH;
 use parts::loops::member_id;
 use record::fields::HEAD_WIDTH;
-use rules::class::STAR;
+use signs::STAR;
 use writing::digits::put_byte;
 use writing::digits::put_digits;
 

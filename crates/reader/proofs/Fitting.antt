@@ -11,9 +11,9 @@ use lib.Seq.{slice}
 use Rattle.cells.specs.Bytes.{pick, bytes, run, same}
 use Rattle.cells.proofs.Bools.{split}
 use Rattle.cells.proofs.Lists.{same-true}
-use Rattle.rules.specs.Class.{belongs, ofClass}
+use Rattle.signs.specs.Class.{belongs, ofClass}
 use Rattle.rules.specs.Day.{dayWidth}
-use Rattle.rules.specs.declared.class.Class.the-variants.{Allowed, Zero}
+use Rattle.signs.specs.declared.Class.the-variants.{Allowed, Zero}
 use Rattle.record.specs.Layout.{mostBytes, mostFields, dateStart, layout, total, fixedWidth, kindOf, firstBroken}
 use Rattle.record.specs.Contents.{noMember}
 use Rattle.record.specs.Answers.{_then_}

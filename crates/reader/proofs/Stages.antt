@@ -8,8 +8,8 @@ use borrow.Author.Tests.{eq-eqb, ne-eqb, lt-ltb, le-ltb}
 use lib.ListN.{length, drop}
 use lib.Seq.{slice}
 use Rattle.cells.specs.Bytes.{run, same}
-use Rattle.rules.specs.Class.{belongs}
-use Rattle.rules.specs.declared.class.Class.the-variants.{Allowed}
+use Rattle.signs.specs.Class.{belongs}
+use Rattle.signs.specs.declared.Class.the-variants.{Allowed}
 use Rattle.record.specs.Layout.{mostBytes, mostFields, layout, fixedWidth, startOf, kindOf, firstBroken}
 use Rattle.record.specs.Contents.{noMember}
 use Rattle.record.specs.Answers.{checkedOf, _then_}

@@ -26,7 +26,7 @@ use record::layout::first_broken;
 use record::layout::fixed_width;
 use record::layout::kind_of;
 use record::layout::start_of;
-use rules::class::allowed_run;
+use signs::allowed_run;
 use values::delivery_of;
 use values::no_delivery;
 use values::no_order;

@@ -12,9 +12,9 @@ use lib.Seq.{slice, take-suc, take-all, drop-cons, drop-drop}
 use Rattle.cells.specs.Bytes.{pick, among}
 use Rattle.cells.proofs.Bools.{split, and-left, and-right}
 use Rattle.cells.proofs.Parts.{take-from, slice-drop}
-use Rattle.rules.specs.Class.{padded}
+use Rattle.signs.specs.Class.{padded}
 use Rattle.rules.specs.Rule.{texts, keeps}
-use Rattle.rules.specs.declared.class.Class.the-variants.{Account}
+use Rattle.signs.specs.declared.Class.the-variants.{Account}
 use Rattle.rules.specs.declared.rule.Texts.the-variants.{Party}
 use Rattle.record.specs.declared.layout.Field.{Field}
 use Rattle.record.specs.declared.layout.Kind.{Kind}

@@ -4,9 +4,9 @@ use mathlib.Core.Bool.{Bool, false, not, _&&_, _||_}
 use mathlib.Core.List.{List, [], _∷_}
 use lib.Dec.{eqb}
 use Rattle.cells.specs.Bytes.{pick, any}
-use Rattle.rules.specs.Class.{barred}
+use Rattle.signs.specs.Class.{barred}
 use Rattle.rules.specs.Rule.{keeps}
-use Rattle.rules.specs.declared.class.Class.the-variants.{Any, Digit, Capital}
+use Rattle.signs.specs.declared.Class.the-variants.{Any, Digit, Capital}
 use Rattle.rules.specs.declared.rule.Texts.the-variants.{HoldMark, PartTax, YesOnly, YesOrU, Medium}
 use Rattle.rules.specs.declared.rule.Rule.{Rule}
 use Rattle.rules.specs.declared.rule.Rule.the-variants.{Free, Of, OneOf, DayCount, Date}

@@ -6,9 +6,9 @@ use lib.Dec.{eqb}
 use lib.ListN.{length, take, drop, getD}
 use lib.Seq.{slice}
 use Rattle.cells.specs.Bytes.{pick, run}
-use Rattle.rules.specs.Class.{star, ofClass}
+use Rattle.signs.specs.Class.{star, ofClass}
 use Rattle.rules.specs.Number.{number}
-use Rattle.rules.specs.declared.class.Class.the-variants.{Digit}
+use Rattle.signs.specs.declared.Class.the-variants.{Digit}
 use Rattle.record.specs.Contents.{contentKept, groupKept}
 use Rattle.record.specs.declared.answer.Refusal.the-variants.{NoField, LastField, TooManyFields, Content, Group}
 use Rattle.record.specs.declared.answer.Verdict.{Verdict}

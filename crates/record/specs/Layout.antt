@@ -4,10 +4,10 @@ use mathlib.Core.List.{List, [], _∷_, _++_}
 use lib.ListN.{length, take, drop}
 use lib.Seq.{slice}
 use Rattle.cells.specs.Bytes.{pick, bytes, same}
-use Rattle.rules.specs.Class.{ofClass}
+use Rattle.signs.specs.Class.{ofClass}
 use Rattle.rules.specs.Day.{dayWidth}
 use Rattle.rules.specs.Rule.{keeps}
-use Rattle.rules.specs.declared.class.Class.the-variants.{Any, Digit, Capital, Account, Blank, Zero, Unbarred}
+use Rattle.signs.specs.declared.Class.the-variants.{Any, Digit, Capital, Account, Blank, Zero, Unbarred}
 use Rattle.rules.specs.declared.rule.Texts.the-variants.{Party, Numbering, Measure, HoldMark, TaxMark}
 use Rattle.rules.specs.declared.rule.Rule.{Rule}
 use Rattle.rules.specs.declared.rule.Rule.the-variants.{Free, Of, Padded, Named, OneOf, Date, ExpectedDate, Article}

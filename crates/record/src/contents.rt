@@ -2,18 +2,18 @@
 ghost use mathlib.Core.Path.{_≡_};
 ghost use mathlib.Core.Bool.{_&&_};
 ghost use mathlib.Core.List.{[]};
-ghost use Rattle.rules.specs.Class.{barred};
+ghost use Rattle.signs.specs.Class.{barred};
 ghost use Rattle.rules.specs.Rule.{keeps};
 ghost use Rattle.record.specs.Contents.{contentRule, guarded, nextMember, previousMember, isWanted, groupKept};
 use crate::layout::Kind;
-use rules::class::Class;
-use rules::class::belongs_to;
-use rules::class::of_class;
 use rules::rule::Rule;
 use rules::rule::Texts;
 use rules::rule::is_day;
 use rules::rule::is_day_count;
 use rules::rule::is_one_of;
+use signs::Class;
+use signs::belongs_to;
+use signs::of_class;
 
 // Stands for "no member": 0 is in no group.
 pub const NO_MEMBER: usize = 0;

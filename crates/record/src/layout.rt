@@ -13,14 +13,14 @@ use crate::places::SENDER;
 use crate::places::SENDER_QUALIFIER;
 use cells::part;
 use cells::same;
-use rules::class::Class;
-use rules::class::is_padded;
-use rules::class::of_class;
 use rules::day::Day;
 use rules::rule::Rule;
 use rules::rule::Texts;
 use rules::rule::is_one_of;
 use rules::rule::keeps_rule;
+use signs::Class;
+use signs::is_padded;
+use signs::of_class;
 
 // A record is at most this long without its line end.
 pub const MOST_BYTES: usize = 1024;

@@ -12,9 +12,9 @@ use Rattle.cells.specs.Bytes.{all, joined}
 use Rattle.cells.specs.Little.{leBytes}
 use Rattle.cells.proofs.Bools.{and-left, and-right}
 use Rattle.cells.proofs.Lists.{all-weaker, all-append}
-use Rattle.rules.specs.Class.{belongs}
-use Rattle.rules.proofs.Classes.{allowed-byte}
-use Rattle.rules.specs.declared.class.Class.the-variants.{Allowed}
+use Rattle.signs.specs.Class.{belongs}
+use Rattle.signs.proofs.Classes.{allowed-byte}
+use Rattle.signs.specs.declared.Class.the-variants.{Allowed}
 use Rattle.record.specs.declared.layout.Kind.{Kind}
 use Rattle.record.specs.declared.layout.Kind.the-variants.{Order, Goods, Closing, Report}
 use Rattle.reader.proofs.Fitting.{Fitting}

@@ -10,7 +10,7 @@ use lib.Seq.{slice, slice-cons, sets, sets-eq, drop-drop, slice-empty}
 use borrow.Author.Tests.{ltb-true}
 use Rattle.cells.specs.Little.{leAt, leBytes}
 use Rattle.cells.proofs.Parts.{take-from}
-use Rattle.rules.proofs.Runs.{all-at}
+use Rattle.signs.proofs.Runs.{all-at}
 use Rattle.restored.specs.Restored.{Bytes}
 
 -- a part and what follows it

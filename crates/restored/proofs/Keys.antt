@@ -11,14 +11,14 @@ use lib.Seq.{slice, take-append-add, drop-append-seam, take-at, drop-at}
 use Rattle.cells.specs.Bytes.{all, among, joined}
 use Rattle.cells.proofs.Bools.{and-right}
 use Rattle.cells.proofs.Lists.{same-refl, all-take, all-drop, all-append}
-use Rattle.rules.specs.Class.{belongs, allOf, ofClass, padded, named}
+use Rattle.signs.specs.Class.{belongs, allOf, ofClass, padded, named}
 use Rattle.rules.specs.Day.{isDay}
 use Rattle.rules.specs.Article.{article}
 use Rattle.rules.specs.Rule.{texts, keeps}
-use Rattle.rules.specs.declared.class.Class.{Class}
-use Rattle.rules.specs.declared.class.Class.the-variants.{Any, Allowed, Digit, Account, Blank, Unbarred}
+use Rattle.signs.specs.declared.Class.{Class}
+use Rattle.signs.specs.declared.Class.the-variants.{Any, Allowed, Digit, Account, Blank, Unbarred}
 use Rattle.rules.specs.declared.rule.Texts.the-variants.{Party, Numbering}
-use Rattle.rules.proofs.Runs.{run-all}
+use Rattle.signs.proofs.Runs.{run-all}
 use Rattle.record.specs.Layout.{noField, address, addressQualifier, date, reference, slipNumber, article as articleField, articleQualifier, digits, layout, total, startOf, firstBroken}
 use Rattle.record.specs.Values.{fieldBytes}
 use Rattle.record.specs.declared.layout.Field.{Field}

@@ -10,7 +10,7 @@ use lib.Seq.{sets, take-at}
 use borrow.Author.Tests.{le-leb, leb-true, ltb-true}
 use Rattle.cells.specs.Little.{leAt}
 use Rattle.cells.proofs.Bools.{split}
-use Rattle.rules.proofs.Runs.{all-at}
+use Rattle.signs.proofs.Runs.{all-at}
 use Rattle.book.specs.Lent.{Lent}
 use Rattle.save.specs.Form.{frontWidth, lineBodyWidth, frontOf, slipsAt}
 use Rattle.save.specs.Saved.{slipBodyWidth, written, refusedNumber, notSaved, savedAs, savedWidth, statedLines, statedSlips, lineIn, slipIn, isSaveOf, formIn}

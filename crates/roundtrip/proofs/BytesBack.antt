@@ -13,16 +13,16 @@ use Rattle.cells.specs.Bytes.{within, all}
 use Rattle.cells.proofs.Bools.{split, and-left, and-right}
 use Rattle.cells.proofs.Parts.{parts-join}
 use Rattle.cells.proofs.Lists.{all-weaker, all-take, all-drop}
-use Rattle.rules.specs.Class.{belongs, allOf, ofClass, digit}
+use Rattle.signs.specs.Class.{belongs, allOf, ofClass, digit}
 use Rattle.rules.specs.Number.{numberFrom, number}
 use Rattle.rules.specs.Day.{realDay, dayOf, dayWidth, isDay, dated, dayKept}
 use Rattle.rules.specs.Rule.{expected}
 use Rattle.rules.specs.Values.{expectedOf}
-use Rattle.rules.specs.declared.class.Class.{Class}
-use Rattle.rules.specs.declared.class.Class.the-variants.{Digit, Blank, Zero}
+use Rattle.signs.specs.declared.Class.{Class}
+use Rattle.signs.specs.declared.Class.the-variants.{Digit, Blank, Zero}
 use Rattle.rules.proofs.Days.{dated-day, kept-day}
 use Rattle.rules.proofs.Digits.{width}
-use Rattle.rules.proofs.Fits.{at-most}
+use Rattle.signs.proofs.Fits.{at-most}
 use Rattle.writing.specs.Digits.{digitsOf, numberBytes}
 use Rattle.writing.specs.Typed.{dayDigits, dayBytes, isNoDay, deliveryDayBytes, expectedBytes}
 use Rattle.roundtrip.proofs.Sequences.{all-one}

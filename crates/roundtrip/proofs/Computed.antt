@@ -8,12 +8,12 @@ use borrow.Author.Tests.{leb-true}
 use lib.Dec.{leb}
 use lib.ListN.{length, take}
 use Rattle.cells.specs.Bytes.{bytes, all, any, run, same, among, joined}
-use Rattle.rules.specs.Class.{belongs, allOf, ofClass, padded, named}
+use Rattle.signs.specs.Class.{belongs, allOf, ofClass, padded, named}
 use Rattle.rules.specs.Number.{numberFrom}
 use Rattle.rules.specs.Day.{leap, monthDays, realDay, dayOf, isDay}
 use Rattle.rules.specs.Article.{checkValue, weighted, gs1, isbn, seriesVolume, article}
 use Rattle.rules.specs.Rule.{texts, dayCount, expected, keeps}
-use Rattle.rules.specs.declared.class.Class.the-variants.{Allowed}
+use Rattle.signs.specs.declared.Class.the-variants.{Allowed}
 use Rattle.record.specs.Layout.{mostBytes, mostFields, layout, kindOf}
 use Rattle.record.specs.Contents.{noMember, contents, isIn, ruleIn, contentRule, guardedIds, guarded, contentKept, groups, firstOf, nextIn, previousIn, groupWith, nextMember, previousMember, isWanted, groupKept}
 use Rattle.record.specs.Samples.{X, Y, Z, with}

@@ -8,10 +8,10 @@ use lib.ListN.{length, take, drop, replicate, take-append-drop}
 use lib.Seq.{slice}
 use Rattle.cells.specs.Bytes.{pick, bytes, all, same, joined}
 use Rattle.cells.proofs.Lists.{same-refl, all-take}
-use Rattle.rules.specs.Class.{belongs, ofClass}
+use Rattle.signs.specs.Class.{belongs, ofClass}
 use Rattle.rules.specs.Day.{dayWidth}
-use Rattle.rules.specs.declared.class.Class.the-variants.{Allowed, Zero}
-use Rattle.rules.proofs.Runs.{run-all}
+use Rattle.signs.specs.declared.Class.the-variants.{Allowed, Zero}
+use Rattle.signs.proofs.Runs.{run-all}
 use Rattle.record.specs.Layout.{mostFields, dateStart, layout, total, fixedWidth, kindOf}
 use Rattle.record.specs.Answers.{checkedOf}
 use Rattle.record.specs.Values.{orderOf, deliveryOf, reportOf}

@@ -6,9 +6,9 @@ use Prim.Native.Nat.{ℕ, zero, suc, _+_, _*_, _^_, _/_, _%_, _-_, _<_}
 use native.Mathlib.Nat.{pow-suc, mul-assoc}
 use native.Mathlib.Omega.{arith}
 use borrow.Author.Tests.{le-leb}
-use Rattle.rules.specs.Class.{digit, belongs, allOf}
+use Rattle.signs.specs.Class.{digit, belongs, allOf}
 use Rattle.rules.specs.Number.{numberFrom, number}
-use Rattle.rules.specs.declared.class.Class.the-variants.{Digit}
+use Rattle.signs.specs.declared.Class.the-variants.{Digit}
 use Rattle.writing.specs.Digits.{digitsOf}
 use Rattle.cells.specs.Bytes.{all}
 use Rattle.cells.proofs.Lists.{all-append}

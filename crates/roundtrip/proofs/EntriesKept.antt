@@ -7,8 +7,8 @@ use borrow.Author.Tests.{lt-ltb}
 use lib.Dec.{ltb}
 use Rattle.cells.specs.Bytes.{all}
 use Rattle.cells.proofs.Bools.{and-left, and-right}
-use Rattle.rules.specs.Class.{allowed, belongs}
-use Rattle.rules.specs.declared.class.Class.the-variants.{Allowed}
+use Rattle.signs.specs.Class.{allowed, belongs}
+use Rattle.signs.specs.declared.Class.the-variants.{Allowed}
 use Rattle.record.specs.Contents.{contentKept, groupKept}
 use Rattle.record.specs.Fields.{lastId, notStar}
 use Rattle.record.specs.declared.layout.Kind.{Kind}

@@ -11,9 +11,9 @@ use lib.ListN.{length, take, drop, getD, length-take, length-drop, take-append-d
 use lib.Seq.{slice, slice-cons, drop-drop}
 use Rattle.cells.specs.Bytes.{bytes, all}
 use Rattle.cells.proofs.Bools.{split, and-left, and-right}
-use Rattle.rules.specs.Class.{star, digit, belongs, allOf, ofClass}
+use Rattle.signs.specs.Class.{star, digit, belongs, allOf, ofClass}
 use Rattle.rules.specs.Number.{number}
-use Rattle.rules.specs.declared.class.Class.the-variants.{Digit}
+use Rattle.signs.specs.declared.Class.the-variants.{Digit}
 use Rattle.rules.proofs.Digits.{width}
 use Rattle.record.specs.Fields.{lastId, headWidth, headOf, idOf, contentWidth, contentOf, fieldWidth, afterField, onHead, atField, walk, fieldsOf}
 use Rattle.record.specs.declared.answer.Refusal.the-variants.{TooManyFields}

@@ -8,9 +8,9 @@ use lib.Dec.{ltb}
 use lib.ListN.{length}
 use Rattle.cells.specs.Bytes.{run}
 use Rattle.cells.proofs.Bools.{split}
-use Rattle.rules.specs.Class.{belongs}
-use Rattle.rules.specs.declared.class.Class.the-variants.{Allowed}
-use Rattle.rules.proofs.Runs.{run-most}
+use Rattle.signs.specs.Class.{belongs}
+use Rattle.signs.specs.declared.Class.the-variants.{Allowed}
+use Rattle.signs.proofs.Runs.{run-most}
 use Rattle.record.specs.Layout.{layout, total, fixedWidth, firstBroken}
 use Rattle.record.specs.declared.layout.Field.{Field}
 use Rattle.record.specs.declared.layout.Kind.{Kind}

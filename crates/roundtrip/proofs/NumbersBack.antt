@@ -10,7 +10,7 @@ use lib.Dec.{leb}
 use lib.ListN.{length}
 use Rattle.cells.specs.Bytes.{all}
 use Rattle.cells.proofs.Bools.{and-left, and-right}
-use Rattle.rules.specs.Class.{digit}
+use Rattle.signs.specs.Class.{digit}
 use Rattle.rules.specs.Number.{digitValue, numberFrom, number}
 use Rattle.rules.proofs.Digits.{digit-small}
 use Rattle.writing.specs.Digits.{digitsOf}

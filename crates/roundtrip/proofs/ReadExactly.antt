@@ -9,9 +9,9 @@ use lib.Dec.{ltb}
 use lib.ListN.{length, take, drop, replicate, length-append, take-append-drop}
 use lib.Seq.{length-take-le, drop-at, take-append-seam}
 use Rattle.cells.proofs.Bools.{split}
-use Rattle.rules.specs.Class.{belongs}
-use Rattle.rules.specs.declared.class.Class.the-variants.{Allowed}
-use Rattle.rules.proofs.Runs.{run-all, all-whole}
+use Rattle.signs.specs.Class.{belongs}
+use Rattle.signs.specs.declared.Class.the-variants.{Allowed}
+use Rattle.signs.proofs.Runs.{run-all, all-whole}
 use Rattle.record.specs.Layout.{mostFields, layout, fixedWidth, kindOf, firstBroken}
 use Rattle.record.specs.Contents.{noMember}
 use Rattle.record.specs.Answers.{refusalNumber, checkedOf}

@@ -9,10 +9,10 @@ use lib.ListN.{length, drop, length-append}
 use lib.Seq.{slice, take-at, drop-at, drop-drop, take-append-seam, drop-append-seam}
 use Rattle.cells.specs.Bytes.{bytes, all, run}
 use Rattle.cells.proofs.Lists.{all-weaker, all-append}
-use Rattle.rules.specs.Class.{belongs, allOf, ofClass}
+use Rattle.signs.specs.Class.{belongs, allOf, ofClass}
 use Rattle.rules.specs.Number.{numberFrom}
-use Rattle.rules.proofs.Classes.{digit-allowed}
-use Rattle.rules.specs.declared.class.Class.the-variants.{Allowed, Digit}
+use Rattle.signs.proofs.Classes.{digit-allowed}
+use Rattle.signs.specs.declared.Class.the-variants.{Allowed, Digit}
 use Rattle.record.specs.Fields.{lastId, headWidth, headOf, idIn, idOf, notStar, contentWidth, contentOf, fieldWidth, afterField, atField, onHead, walk, Optional, fieldsOf}
 use Rattle.record.specs.declared.fields.Head.the-variants.{Id}
 use Rattle.record.specs.declared.answer.Verdict.{Verdict}

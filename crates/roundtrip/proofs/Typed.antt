@@ -7,12 +7,12 @@ use native.Mathlib.Omega.{arith}
 use lib.ListN.{length, getD, take}
 use lib.Seq.{slice}
 use Rattle.cells.specs.Bytes.{pick, bytes, same, joined}
-use Rattle.rules.specs.Class.{belongs, ofClass}
+use Rattle.signs.specs.Class.{belongs, ofClass}
 use Rattle.rules.specs.Number.{number}
 use Rattle.rules.specs.Day.{dayWidth, dayKept}
 use Rattle.rules.specs.Values.{expectedOf}
 use Rattle.rules.specs.Rule.{keeps}
-use Rattle.rules.specs.declared.class.Class.the-variants.{Allowed, Digit, Zero}
+use Rattle.signs.specs.declared.Class.the-variants.{Allowed, Digit, Zero}
 use Rattle.record.specs.Layout.{dateStart, layout, total, fixedWidth, startOf, kindOf, firstBroken}
 use Rattle.record.specs.Values.{fieldBytes, orderOf, deliveryOf, reportOf}
 use Rattle.record.specs.Read.{judgedAs}

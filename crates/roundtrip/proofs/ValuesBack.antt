@@ -10,16 +10,16 @@ use lib.ListN.{length, getD, replicate, List·getD-eq-default}
 use Rattle.cells.specs.Bytes.{within, all}
 use Rattle.cells.proofs.Bools.{split, and-left, and-right}
 use Rattle.cells.proofs.Lists.{all-append}
-use Rattle.rules.specs.Class.{belongs, allOf}
+use Rattle.signs.specs.Class.{belongs, allOf}
 use Rattle.rules.specs.Number.{numberFrom, number}
 use Rattle.rules.specs.Day.{firstYear, lastYear, leap, monthLengths, monthDays, realDay, dayOf, dayWidth, isDay, dated, dayKept}
 use Rattle.rules.specs.Values.{expectedOf}
-use Rattle.rules.specs.declared.class.Class.the-variants.{Digit, Allowed}
+use Rattle.signs.specs.declared.Class.the-variants.{Digit, Allowed}
 use Rattle.rules.specs.declared.day.Day.{Day}
 use Rattle.rules.specs.declared.day.Dated.the-variants.{Real}
 use Rattle.rules.specs.declared.expected.Expected.{Expected}
 use Rattle.rules.specs.declared.expected.Expected.the-variants.{On, Zeros, Blanks}
-use Rattle.rules.proofs.Runs.{all-at}
+use Rattle.signs.proofs.Runs.{all-at}
 use Rattle.rules.proofs.Days.{dated-real}
 use Rattle.writing.specs.Digits.{digitsOf, unwritable, numberBytes}
 use Rattle.writing.specs.Typed.{dayDigits, dayBytes, isNoDay, deliveryDayBytes, expectedBytes}

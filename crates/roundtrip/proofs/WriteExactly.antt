@@ -9,9 +9,9 @@ use lib.ListN.{length, drop}
 use Rattle.cells.specs.Bytes.{all}
 use Rattle.cells.proofs.Bools.{and-left, and-right}
 use Rattle.cells.proofs.Lists.{all-append}
-use Rattle.rules.specs.Class.{belongs}
-use Rattle.rules.specs.declared.class.Class.the-variants.{Allowed}
-use Rattle.rules.proofs.Runs.{run-all, all-whole}
+use Rattle.signs.specs.Class.{belongs}
+use Rattle.signs.specs.declared.Class.the-variants.{Allowed}
+use Rattle.signs.proofs.Runs.{run-all, all-whole}
 use Rattle.record.specs.Layout.{mostBytes, mostFields, kindOf}
 use Rattle.record.specs.Contents.{noMember}
 use Rattle.record.specs.Fields.{Optional}

@@ -6,9 +6,9 @@ use mathlib.Core.List.{List, [], _∷_}
 use lib.Dec.{eqb, ltb}
 use lib.ListN.{length, take}
 use Rattle.cells.specs.Bytes.{all, joined}
-use Rattle.rules.specs.Class.{belongs}
+use Rattle.signs.specs.Class.{belongs}
 use Rattle.rules.specs.Rule.{keeps}
-use Rattle.rules.specs.declared.class.Class.the-variants.{Allowed}
+use Rattle.signs.specs.declared.Class.the-variants.{Allowed}
 use Rattle.record.specs.Layout.{mostBytes, mostFields, layout, kindOf}
 use Rattle.record.specs.Contents.{noMember, contentKept, groupKept}
 use Rattle.record.specs.Fields.{lastId, notStar, Optional}

@@ -10,9 +10,9 @@ use lib.Seq.{slice, take-all}
 use Rattle.cells.specs.Bytes.{all}
 use Rattle.cells.proofs.Bools.{split, and-true}
 use Rattle.cells.proofs.Parts.{next, nothing}
-use Rattle.rules.specs.Class.{digit, belongs, allOf}
+use Rattle.signs.specs.Class.{digit, belongs, allOf}
 use Rattle.rules.specs.Day.{dayWidth, monthLengths, dayOf, realDay, isDay, dated, dayKept}
-use Rattle.rules.specs.declared.class.Class.the-variants.{Digit}
+use Rattle.signs.specs.declared.Class.the-variants.{Digit}
 use Rattle.rules.specs.declared.day.Day.{Day}
 use Rattle.rules.specs.declared.day.Dated.the-variants.{Real, Unreal}
 

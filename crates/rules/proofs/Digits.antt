@@ -13,7 +13,7 @@ use lib.Seq.{slice, drop-cons}
 use Rattle.cells.specs.Bytes.{all}
 use Rattle.cells.proofs.Bools.{and-left, and-right}
 use Rattle.cells.proofs.Parts.{next, nothing}
-use Rattle.rules.specs.Class.{digit}
+use Rattle.signs.specs.Class.{digit}
 use Rattle.rules.specs.Number.{numberFrom, number, digitValue}
 
 -- a digit counts less than ten

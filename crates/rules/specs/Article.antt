@@ -5,9 +5,9 @@ use mathlib.Core.List.{List, [], _∷_}
 use lib.Dec.{eqb, leb}
 use lib.Seq.{slice}
 use Rattle.cells.specs.Bytes.{pick, bytes, same}
-use Rattle.rules.specs.Class.{letterX, allOf, ofClass, padded}
+use Rattle.signs.specs.Class.{letterX, allOf, ofClass, padded}
 use Rattle.rules.specs.Number.{digitValue}
-use Rattle.rules.specs.declared.class.Class.the-variants.{Digit, Blank, DigitOrX}
+use Rattle.signs.specs.declared.Class.the-variants.{Digit, Blank, DigitOrX}
 
 -- what a character of a check sum counts: a digit its value, X ten
 unfoldable pub checkValue : ℕ → ℕ

@@ -6,9 +6,9 @@ use lib.Dec.{eqb}
 use lib.ListN.{length, getD}
 use lib.Seq.{slice}
 use Rattle.cells.specs.Bytes.{pick, within}
-use Rattle.rules.specs.Class.{allOf}
+use Rattle.signs.specs.Class.{allOf}
 use Rattle.rules.specs.Number.{number}
-use Rattle.rules.specs.declared.class.Class.the-variants.{Digit}
+use Rattle.signs.specs.declared.Class.the-variants.{Digit}
 use Rattle.rules.specs.declared.day.Day.{Day}
 use Rattle.rules.specs.declared.day.Dated.{Dated}
 use Rattle.rules.specs.declared.day.Dated.the-variants.{Real, Unreal}

@@ -1,4 +1,3 @@
-pub mod Class
 pub mod Number
 pub mod Day
 pub mod Article

@@ -4,11 +4,11 @@ use lib.ListN.{take, drop}
 use mathlib.Core.Bool.{Bool, true, _&&_, _||_}
 use mathlib.Core.List.{List, [], _∷_}
 use Rattle.cells.specs.Bytes.{bytes, within, among}
-use Rattle.rules.specs.Class.{ofClass, padded, named}
+use Rattle.signs.specs.Class.{ofClass, padded, named}
 use Rattle.rules.specs.Number.{number}
 use Rattle.rules.specs.Day.{isDay, dayWidth}
 use Rattle.rules.specs.Article.{article}
-use Rattle.rules.specs.declared.class.Class.the-variants.{Digit, Blank, Zero}
+use Rattle.signs.specs.declared.Class.the-variants.{Digit, Blank, Zero}
 use Rattle.rules.specs.declared.rule.Texts.{Texts}
 use Rattle.rules.specs.declared.rule.Texts.the-variants.{Party, Numbering, Measure, HoldMark, TaxMark, PartTax, YesOnly, YesOrU, Medium, NetPrice, ListPrice}
 use Rattle.rules.specs.declared.rule.Rule.{Rule}

@@ -4,8 +4,8 @@ use mathlib.Core.List.{List}
 use Rattle.cells.specs.Bytes.{pick}
 use Rattle.rules.specs.Number.{number}
 use Rattle.rules.specs.Day.{dated}
-use Rattle.rules.specs.Class.{allOf}
-use Rattle.rules.specs.declared.class.Class.the-variants.{Blank}
+use Rattle.signs.specs.Class.{allOf}
+use Rattle.signs.specs.declared.Class.the-variants.{Blank}
 use Rattle.rules.specs.declared.day.Dated.{Dated}
 use Rattle.rules.specs.declared.day.Dated.the-variants.{Real, Unreal}
 use Rattle.rules.specs.declared.amount.Price.{Price}

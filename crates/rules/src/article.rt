@@ -5,14 +5,14 @@ ghost use Prim.Native.Nat.{_≤_};
 ghost use lib.ListN.{length};
 ghost use Rattle.cells.specs.Bytes.{all};
 ghost use Rattle.rules.specs.Article.{low, checkValue, weighted, gs1, isbn, seriesVolume, article};
-use crate::class::Class;
-use crate::class::LETTER_X;
-use crate::class::all_of;
-use crate::class::is_padded;
-use crate::class::of_class;
 use crate::number::digit_value;
 use cells::part;
 use cells::same;
+use signs::Class;
+use signs::LETTER_X;
+use signs::all_of;
+use signs::is_padded;
+use signs::of_class;
 
 const GS1: [u64; 13] = [1, 3, 1, 3, 1, 3, 1, 3, 1, 3, 1, 3, 1];
 

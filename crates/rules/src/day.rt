@@ -2,11 +2,11 @@
 ghost use mathlib.Core.Path.{_≡_};
 ghost use Rattle.rules.specs.Day.{dayWidth, monthLengths, leap, monthDays, realDay, dayOf, dated};
 ghost use lib.ListN.{length, getD};
-ghost use Rattle.rules.specs.Class.{digit, allOf};
-ghost use Rattle.rules.specs.declared.class.Class.the-variants.{Digit};
-use crate::class::NINE;
-use crate::class::ZERO;
+ghost use Rattle.signs.specs.Class.{digit, allOf};
+ghost use Rattle.signs.specs.declared.Class.the-variants.{Digit};
 use crate::number::pair_at;
+use signs::NINE;
+use signs::ZERO;
 
 pub struct Day {
     pub year: u64,

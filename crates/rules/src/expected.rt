@@ -1,10 +1,10 @@
 // An expected date.
 ghost use mathlib.Core.Path.{_≡_};
 ghost use Rattle.rules.specs.Values.{expectedOf};
-use crate::class::Class;
-use crate::class::all_of;
 use crate::day::Dated;
 use crate::day::Day;
+use signs::Class;
+use signs::all_of;
 
 // A day, eight zeros (document 001) or eight blanks (document 004); which of the three it was is kept.
 pub enum Expected {

@@ -1,7 +1,6 @@
 // What a field of a record may hold, as data, and what it says.
 pub mod amount;
 pub mod article;
-pub mod class;
 pub mod day;
 pub mod expected;
 pub mod number;

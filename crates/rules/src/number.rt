@@ -4,7 +4,7 @@ ghost use Prim.Native.Nat.{_+_, _-_, _≤_};
 ghost use lib.ListN.{length};
 ghost use lib.Seq.{slice};
 ghost use Rattle.rules.specs.Number.{digitValue, number};
-use crate::class::ZERO;
+use signs::ZERO;
 
 // What a digit counts; a byte below 0 counts nothing.
 pub fn digit_value(b: u8) -> u64

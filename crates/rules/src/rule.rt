@@ -6,15 +6,15 @@ ghost use Rattle.cells.specs.Bytes.{among};
 ghost use Rattle.rules.specs.Day.{isDay};
 ghost use Rattle.rules.specs.Rule.{rowTexts, texts, dayCount, expected, keeps};
 use crate::article::is_article;
-use crate::class::Class;
-use crate::class::is_named;
-use crate::class::is_padded;
-use crate::class::of_class;
 use crate::day::Dated;
 use crate::day::Day;
 use crate::number::number_of;
 use cells::part;
 use cells::same;
+use signs::Class;
+use signs::is_named;
+use signs::is_padded;
+use signs::of_class;
 
 const MOST_DAYS: u64 = 360;
 

@@ -4,7 +4,7 @@ use mathlib.Core.List.{List, [], _∷_}
 use lib.ListN.{replicate}
 use Rattle.cells.specs.Bytes.{all, any, run, same, among, joined}
 use Rattle.cells.specs.Little.{leAt, leBytes}
-use Rattle.rules.specs.Class.{belongs, allOf, ofClass, padded, named}
+use Rattle.signs.specs.Class.{belongs, allOf, ofClass, padded, named}
 use Rattle.rules.specs.Number.{numberFrom}
 use Rattle.rules.specs.Day.{leap, monthDays, realDay, dayOf, isDay}
 use Rattle.rules.specs.Article.{checkValue, weighted, gs1, isbn, seriesVolume, article}

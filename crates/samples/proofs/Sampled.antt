@@ -5,7 +5,7 @@ use mathlib.Core.Bool.{true, false}
 use mathlib.Core.List.{List, [], _∷_, _++_}
 use lib.ListN.{length, replicate, take}
 use Rattle.cells.specs.Bytes.{bytes, all, any, run, same, among}
-use Rattle.rules.specs.Class.{belongs, allOf, ofClass, padded, named}
+use Rattle.signs.specs.Class.{belongs, allOf, ofClass, padded, named}
 use Rattle.rules.specs.Cases.{allowedBytes, otherBytes}
 use Rattle.rules.specs.Number.{numberFrom}
 use Rattle.rules.specs.Day.{leap, monthDays, realDay, dayOf, isDay, dated as judgedDay}
@@ -20,7 +20,7 @@ use Rattle.record.specs.Values.{fieldBytes, orderOf, deliveryOf, reportOf, noOr
 use Rattle.record.specs.Read.{bytesJudged, fixedJudged, afterWalk, optionalJudged, kindJudged, judged, outcome, optionalStart, optionalFields, tableAfter, check, judgedAs, orderFrom, readOrder, deliveryFrom, readDelivery, reportFrom, readReport}
 use Rattle.record.specs.Samples.{X, Y, Z, put, Call, cases, readingOf, firstWrong}
 use Rattle.record.specs.Edges.{C, recordEdges, byteEdges, orderEdges, deliveryEdges, walkEdges, titled, fullTable, shortTable, contentEdges, groupEdges}
-use Rattle.rules.specs.declared.class.Class.the-variants.{Allowed}
+use Rattle.signs.specs.declared.Class.the-variants.{Allowed}
 use Rattle.rules.specs.declared.expected.Expected.the-variants.{On, Zeros, Blanks}
 use Rattle.record.specs.declared.answer.Checked.{Checked}
 

@@ -1,7 +1,7 @@
 -- The cases of writing hold of the definitions, by computation.
 use mathlib.Core.Path.{_≡_, refl}
 use Rattle.cells.specs.Bytes.{all, any, run, same, among, joined}
-use Rattle.rules.specs.Class.{belongs, allOf, ofClass, padded, named}
+use Rattle.signs.specs.Class.{belongs, allOf, ofClass, padded, named}
 use Rattle.rules.specs.Number.{numberFrom}
 use Rattle.rules.specs.Day.{leap, monthDays, realDay, dayOf, isDay, dated}
 use Rattle.rules.specs.Article.{checkValue, weighted, gs1, isbn, seriesVolume, article}

@@ -10,12 +10,12 @@ use lib.Seq.{slice, drop-drop}
 use Rattle.cells.specs.Bytes.{pick, among, run}
 use Rattle.cells.proofs.Parts.{take-from, slice-drop}
 use Rattle.rules.specs.Article.{article}
-use Rattle.rules.specs.Class.{belongs, allOf, ofClass, padded, named}
+use Rattle.signs.specs.Class.{belongs, allOf, ofClass, padded, named}
 use Rattle.rules.specs.Day.{isDay}
 use Rattle.rules.specs.Rule.{texts, keeps}
-use Rattle.rules.specs.declared.class.Class.the-variants.{Any, Allowed, Digit, Account, Blank}
+use Rattle.signs.specs.declared.Class.the-variants.{Any, Allowed, Digit, Account, Blank}
 use Rattle.rules.specs.declared.rule.Texts.the-variants.{Party, Numbering}
-use Rattle.rules.proofs.Runs.{all-run, run-all}
+use Rattle.signs.proofs.Runs.{all-run, run-all}
 use Rattle.record.specs.Layout.{layout, firstBroken}
 use Rattle.book.specs.Booking.{keyFields, articleFields, slipFields}
 use Rattle.save.specs.Entries.{referenceAt, slipNumberAt, lineFields, goodsFields, fieldsKept}

@@ -8,8 +8,8 @@ use lib.Seq.{slice}
 use Rattle.cells.specs.Bytes.{pick, within, same}
 use Rattle.cells.specs.Little.{leAt}
 use Rattle.cells.specs.Search.{allFrom, sumFrom}
-use Rattle.rules.specs.Class.{allOf}
-use Rattle.rules.specs.declared.class.Class.the-variants.{Allowed, Blank}
+use Rattle.signs.specs.Class.{allOf}
+use Rattle.signs.specs.declared.Class.the-variants.{Allowed, Blank}
 use Rattle.record.specs.Layout.{noField, layout, firstBroken}
 use Rattle.record.specs.declared.layout.Field.{Field}
 use Rattle.record.specs.declared.layout.Kind.the-variants.{Goods}

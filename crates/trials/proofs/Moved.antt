@@ -5,7 +5,7 @@ use lib.ListN.{replicate}
 use Rattle.cells.specs.Bytes.{all, any, run, same, among}
 use Rattle.cells.specs.Little.{leAt, leBytes}
 use Rattle.cells.specs.Search.{allFrom, sumFrom}
-use Rattle.rules.specs.Class.{belongs, allOf, ofClass, padded, named}
+use Rattle.signs.specs.Class.{belongs, allOf, ofClass, padded, named}
 use Rattle.rules.specs.Number.{numberFrom}
 use Rattle.rules.specs.Day.{leap, monthDays, realDay, dayOf, isDay, dated}
 use Rattle.rules.specs.Article.{checkValue, weighted, gs1, isbn, seriesVolume, article}

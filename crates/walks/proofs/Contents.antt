@@ -10,8 +10,8 @@ use lib.Seq.{slice, drop-drop}
 use Rattle.cells.specs.Bytes.{run, any}
 use Rattle.cells.proofs.Bools.{split, and-left, and-right, and-false}
 use Rattle.cells.proofs.Parts.{next, take-from, nothing}
-use Rattle.rules.specs.Class.{barred}
-use Rattle.rules.proofs.Runs.{run-most, run-on, run-off, run-end}
+use Rattle.signs.specs.Class.{barred}
+use Rattle.signs.proofs.Runs.{run-most, run-on, run-off, run-end}
 use Rattle.record.specs.Fields.{notStar, contentWidth, contentOf, fieldWidth, afterField}
 
 -- the place of the first star from p on, else of the record's end

@@ -10,9 +10,9 @@ use lib.ListN.{length, drop, getD, length-drop, length-take}
 use lib.Seq.{slice, getD-drop}
 use Rattle.cells.proofs.Bools.{and-false}
 use Rattle.cells.proofs.Parts.{slice-drop}
-use Rattle.rules.specs.Class.{allOf, ofClass}
+use Rattle.signs.specs.Class.{allOf, ofClass}
 use Rattle.rules.specs.Number.{number}
-use Rattle.rules.specs.declared.class.Class.the-variants.{Digit}
+use Rattle.signs.specs.declared.Class.the-variants.{Digit}
 use Rattle.record.specs.Fields.{headOf, idIn, idOf}
 use Rattle.record.specs.declared.fields.Head.the-variants.{Id, Missing}
 

@@ -23,10 +23,10 @@ use record::fields::Head;
 use record::fields::LAST_ID;
 use record::layout::Kind;
 use record::layout::MOST_FIELDS;
-use rules::class::Class;
-use rules::class::STAR;
-use rules::class::all_of;
 use rules::number::number_of;
+use signs::Class;
+use signs::STAR;
+use signs::all_of;
 
 // What stands at a place where an optional field should start.
 pub fn head_at(s: &[u8], at: usize) -> Head

@@ -12,7 +12,7 @@ ghost use Rattle.writing.specs.Write.{entries, inside, optionalIn, optionalOf, 
 use cells::part;
 use cells::paste_at;
 use record::fields::HEAD_WIDTH;
-use rules::class::STAR;
+use signs::STAR;
 use writing::digits::put_byte;
 use writing::digits::put_digits;
 use writing::entries::Entry;

@@ -9,9 +9,9 @@ use lib.ListN.{length}
 use lib.Seq.{slice}
 use Rattle.cells.specs.Bytes.{all, any}
 use Rattle.cells.proofs.Bools.{split, and-false, and-left, and-right}
-use Rattle.rules.specs.Class.{barred, belongs, allOf}
+use Rattle.signs.specs.Class.{barred, belongs, allOf}
 use Rattle.rules.specs.Rule.{keeps}
-use Rattle.rules.specs.declared.class.Class.the-variants.{Unbarred}
+use Rattle.signs.specs.declared.Class.the-variants.{Unbarred}
 use Rattle.record.specs.Contents.{contentRule, guarded, contentKept}
 use Rattle.record.specs.Fields.{lastId}
 use Rattle.record.specs.declared.layout.Kind.{Kind}

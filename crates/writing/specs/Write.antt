@@ -6,8 +6,8 @@ use lib.Dec.{eqb, leb, ltb}
 use lib.ListN.{length, drop, getD}
 use lib.Seq.{slice}
 use Rattle.cells.specs.Bytes.{pick, bytes, all, run}
-use Rattle.rules.specs.Class.{star, allowed, belongs}
-use Rattle.rules.specs.declared.class.Class.the-variants.{Allowed}
+use Rattle.signs.specs.Class.{star, allowed, belongs}
+use Rattle.signs.specs.declared.Class.the-variants.{Allowed}
 use Rattle.record.specs.Layout.{mostBytes, mostFields, layout, fixedWidth, kindOf, firstBroken}
 use Rattle.record.specs.Contents.{contentKept, noMember, groupKept}
 use Rattle.record.specs.Fields.{lastId, Optional}

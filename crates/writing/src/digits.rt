@@ -5,7 +5,7 @@ ghost use mathlib.Core.List.{[], _∷_};
 ghost use lib.ListN.{length};
 ghost use lib.Seq.{sets};
 ghost use Rattle.writing.specs.Digits.{digitsOf, unwritable, numberBytes};
-use rules::class::ZERO;
+use signs::ZERO;
 
 // One byte into a slice.
 pub fn put_byte(out: &mut [u8], at: usize, b: u8)

@@ -20,10 +20,10 @@ use record::fields::HEAD_WIDTH;
 use record::fields::LAST_ID;
 use record::layout::Kind;
 use record::layout::MOST_BYTES;
-use rules::class::Class;
-use rules::class::STAR;
-use rules::class::all_of;
-use rules::class::belongs_to;
+use signs::Class;
+use signs::STAR;
+use signs::all_of;
+use signs::belongs_to;
 
 // An entry of a table: the ID, and where in the lent contents its content stands.
 pub struct Entry {

@@ -12,7 +12,7 @@ use record::layout::first_broken;
 use record::layout::fixed_width;
 use record::layout::kind_of;
 use record::layout::size_of;
-use rules::class::allowed_run;
+use signs::allowed_run;
 
 // The index of the field that the byte at a place stands in, or the number of fields past them.
 pub fn field_holding(k: Kind, place: usize) -> usize

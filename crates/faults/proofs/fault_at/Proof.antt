@@ -6,9 +6,9 @@ use native.Mathlib.Omega.{arith}
 use lib.ListN.{getD}
 use Rattle.cells.specs.Bytes.{among}
 use Rattle.cells.proofs.Bools.{is-not, is-so}
-use Rattle.rules.specs.Class.{ofClass}
+use Rattle.signs.specs.Class.{ofClass}
 use Rattle.rules.specs.Rule.{texts}
-use Rattle.rules.specs.declared.class.Class.the-variants.{Capital}
+use Rattle.signs.specs.declared.Class.the-variants.{Capital}
 use Rattle.rules.specs.declared.rule.Texts.the-variants.{PartTax}
 use Rattle.parts.specs.Part.{lentArticle}
 use Rattle.parts.specs.Fields.{lentLoop}

@@ -2,8 +2,8 @@
 use mathlib.Core.Path.{_≡_, _∙_, sym, ap}
 use Prim.Native.Nat.{suc}
 use Rattle.cells.proofs.Bools.{is-not, is-so}
-use Rattle.rules.specs.Class.{ofClass}
-use Rattle.rules.specs.declared.class.Class.the-variants.{Capital}
+use Rattle.signs.specs.Class.{ofClass}
+use Rattle.signs.specs.declared.Class.the-variants.{Capital}
 use Rattle.parts.specs.Part.{lentPrice}
 use Rattle.lent_parts.specs.Faults.{isKept}
 use Rattle.faults.proofs.Kept.{qualifier-kept, currency-kept}

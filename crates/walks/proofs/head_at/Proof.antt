@@ -3,9 +3,9 @@ use mathlib.Core.Path.{_∙_, sym, ap}
 use Prim.Native.Nat.{_+_}
 use native.Mathlib.Omega.{arith}
 use Rattle.cells.proofs.Bools.{is-not, is-so}
-use Rattle.rules.specs.Class.{allOf}
+use Rattle.signs.specs.Class.{allOf}
 use Rattle.rules.specs.Number.{number}
-use Rattle.rules.specs.declared.class.Class.the-variants.{Digit}
+use Rattle.signs.specs.declared.Class.the-variants.{Digit}
 use Rattle.rules.proofs.Parts.{part-most}
 use Rattle.record.specs.declared.fields.Head.the-variants.{Id}
 use Rattle.walks.proofs.Heads.{head-short, head-other, head-letters, head-id}

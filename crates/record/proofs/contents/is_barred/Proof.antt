@@ -1,6 +1,6 @@
 -- `record::contents::is_barred` meets its contract: a byte is barred just where it is not of the class of the others.
 use mathlib.Core.Bool.{Bool·not-not}
-use Rattle.rules.specs.Class.{belongs}
+use Rattle.signs.specs.Class.{belongs}
 use borrow.Author.Needs.{needs}
 use Rattle.record.proofs.contents.is_barred.Statement.{statement}
 use Rattle.record.proofs.contents.is_barred.Tie as tie

@@ -3,9 +3,9 @@ use mathlib.Core.Path.{_≡_, _∙_}
 use lib.Seq.{slice}
 use Rattle.cells.specs.Bytes.{among}
 use Rattle.cells.proofs.Bools.{is-not, is-so}
-use Rattle.rules.specs.Class.{padded}
+use Rattle.signs.specs.Class.{padded}
 use Rattle.rules.specs.Rule.{texts}
-use Rattle.rules.specs.declared.class.Class.the-variants.{Account}
+use Rattle.signs.specs.declared.Class.the-variants.{Account}
 use Rattle.rules.specs.declared.rule.Texts.the-variants.{Party}
 use Rattle.record.proofs.Layouts.{head-judged}
 use borrow.Author.Needs.{needs}

@@ -4,7 +4,7 @@ use native.Mathlib.Omega.{arith}
 use Rattle.cells.proofs.Bools.{is-not, is-so}
 use Rattle.rules.specs.Article.{gs1}
 use Rattle.cells.specs.Bytes.{all}
-use Rattle.rules.proofs.Fits.{at-most}
+use Rattle.signs.proofs.Fits.{at-most}
 use borrow.Author.Needs.{needs}
 use Rattle.rules.proofs.article.is_gs1.Statement.{statement}
 use Rattle.rules.proofs.article.is_gs1.Tie as tie

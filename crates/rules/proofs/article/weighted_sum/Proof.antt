@@ -7,7 +7,7 @@ use borrow.Author.Tests.{leb-true}
 use lib.ListN.{length, drop, getD}
 use lib.Seq.{drop-length}
 use Rattle.rules.specs.Article.{weighted, low}
-use Rattle.rules.proofs.Runs.{all-at}
+use Rattle.signs.proofs.Runs.{all-at}
 use Rattle.rules.proofs.Sums.{term, none-left, small}
 use borrow.Author.Needs.{needs}
 use Rattle.rules.proofs.article.weighted_sum.Statement.{statement}

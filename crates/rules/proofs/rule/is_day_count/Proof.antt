@@ -2,7 +2,7 @@
 use native.Mathlib.Omega.{arith}
 use Rattle.cells.proofs.Bools.{is-not, is-so}
 use Rattle.rules.specs.Rule.{dayCount}
-use Rattle.rules.proofs.Fits.{at-most}
+use Rattle.signs.proofs.Fits.{at-most}
 use borrow.Author.Needs.{needs}
 use Rattle.rules.proofs.rule.is_day_count.Statement.{statement}
 use Rattle.rules.proofs.rule.is_day_count.Tie as tie

@@ -8,8 +8,8 @@ use lib.Dec.{eqb}
 use lib.ListN.{length, getD, drop}
 use Rattle.cells.specs.Bytes.{run}
 use Rattle.cells.proofs.Bools.{is-not, is-so}
-use Rattle.rules.specs.Class.{belongs}
-use Rattle.rules.proofs.Runs.{all-run, run-on, run-off, run-end}
+use Rattle.signs.specs.Class.{belongs}
+use Rattle.signs.proofs.Runs.{all-run, run-on, run-off, run-end}
 use Rattle.writing.specs.Write.{contentByte}
 use borrow.Author.Needs.{needs}
 use Rattle.writing.proofs.entries.is_content.Statement.{statement}

@@ -1,8 +1,8 @@
 -- `writing::fixed::first_faulty` meets its contract: the smaller of two indices, the first of them where no fixed field holds a byte not allowed.
 use native.Mathlib.Omega.{arith}
 use Rattle.cells.specs.Bytes.{run}
-use Rattle.rules.specs.Class.{belongs}
-use Rattle.rules.specs.declared.class.Class.the-variants.{Allowed}
+use Rattle.signs.specs.Class.{belongs}
+use Rattle.signs.specs.declared.Class.the-variants.{Allowed}
 use Rattle.record.specs.Layout.{layout, fixedWidth}
 use Rattle.record.proofs.Layouts.{broken-most}
 use Rattle.writing.specs.Write.{firstFaulty}

@@ -1,8 +1,8 @@
--- `rules::class::is_allowed` meets its contract: ASCII is allowed, any other byte by the rest of the definition.
+-- `signs::is_allowed` meets its contract: ASCII is allowed, any other byte by the rest of the definition.
 use mathlib.Core.Path.{_∙_, sym}
 use borrow.Author.Needs.{needs}
-use Rattle.rules.proofs.class.is_allowed.Statement.{statement}
-use Rattle.rules.proofs.class.is_allowed.Tie as tie
+use Rattle.signs.proofs.is_allowed.Statement.{statement}
+use Rattle.signs.proofs.is_allowed.Tie as tie
 
 between-requires : tie.Need-between-requires
 between-requires c κs = search needs

@@ -1,7 +1,7 @@
--- `rules::class::is_plain` meets its contract: each test is its part of the definition.
+-- `signs::is_plain` meets its contract: each test is its part of the definition.
 use borrow.Author.Needs.{needs}
-use Rattle.rules.proofs.class.is_plain.Statement.{statement}
-use Rattle.rules.proofs.class.is_plain.Tie as tie
+use Rattle.signs.proofs.is_plain.Statement.{statement}
+use Rattle.signs.proofs.is_plain.Tie as tie
 
 between-requires : tie.Need-between-requires
 between-requires c κs = search needs

@@ -1,4 +1,4 @@
--- `rules::class::is_named` meets its contract: no bytes are all blank.
+-- `signs::is_named` meets its contract: no bytes are all blank.
 use mathlib.Core.Path.{_≡_}
 use mathlib.Core.List.{[]}
 use native.Mathlib.Omega.{arith}
@@ -6,11 +6,11 @@ use borrow.Author.Tests.{ne-eqb, eq-eqb}
 use lib.ListN.{drop-of-length-le}
 use Rattle.cells.specs.Bytes.{all}
 use Rattle.cells.proofs.Bools.{split, is-not, is-so, or-false}
-use Rattle.rules.specs.Class.{named, allOf}
-use Rattle.rules.specs.declared.class.Class.the-variants.{Blank}
+use Rattle.signs.specs.Class.{named, allOf}
+use Rattle.signs.specs.declared.Class.the-variants.{Blank}
 use borrow.Author.Needs.{needs}
-use Rattle.rules.proofs.class.is_named.Statement.{statement}
-use Rattle.rules.proofs.class.is_named.Tie as tie
+use Rattle.signs.proofs.is_named.Statement.{statement}
+use Rattle.signs.proofs.is_named.Tie as tie
 
 returns : tie.Need-returns
 unfolding named allOf all

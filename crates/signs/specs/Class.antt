@@ -5,8 +5,8 @@ use mathlib.Core.List.{List}
 use lib.Dec.{eqb}
 use lib.ListN.{length, drop, getD}
 use Rattle.cells.specs.Bytes.{within, all, run}
-use Rattle.rules.specs.declared.class.Class.{Class}
-use Rattle.rules.specs.declared.class.Class.the-variants.{Any, Allowed, Digit, Capital, Account, Blank, Zero, Unbarred, DigitOrX}
+use Rattle.signs.specs.declared.Class.{Class}
+use Rattle.signs.specs.declared.Class.the-variants.{Any, Allowed, Digit, Capital, Account, Blank, Zero, Unbarred, DigitOrX}
 
 -- printable ASCII, and Latin-1 from 160 on
 abbrev pub plain : ℕ → Bool

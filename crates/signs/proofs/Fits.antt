@@ -8,8 +8,8 @@ use lib.ListN.{length}
 use borrow.Author.Tests.{leb-true}
 use Rattle.cells.specs.Bytes.{within}
 use Rattle.cells.proofs.Bools.{and-left, and-right}
-use Rattle.rules.specs.Class.{allOf, ofClass}
-use Rattle.rules.specs.declared.class.Class.{Class}
+use Rattle.signs.specs.Class.{allOf, ofClass}
+use Rattle.signs.specs.declared.Class.{Class}
 
 -- a field of least to most bytes of a class has at most that many
 pub at-most : (k : Class) (least most : ℕ) (s : List ℕ) → ofClass k least most s ≡ true → length s ≤ most

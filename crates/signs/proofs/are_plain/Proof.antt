@@ -1,4 +1,4 @@
--- `rules::class::are_plain` meets its contract. The invariant: what is kept so far and the test of what is left make the test of the whole.
+-- `signs::are_plain` meets its contract. The invariant: what is kept so far and the test of what is left make the test of the whole.
 use mathlib.Core.Path.{_≡_, sym, _∙_}
 use mathlib.Core.Bool.{_&&_}
 use Prim.Native.Nat.{_-_, _≤_}
@@ -6,11 +6,11 @@ use native.Mathlib.Omega.{arith}
 use lib.ListN.{length, drop}
 use Rattle.cells.specs.Bytes.{all}
 use Rattle.cells.proofs.Bools.{and-true}
-use Rattle.rules.specs.Class.{plain}
-use Rattle.rules.proofs.Runs.{all-on, all-end}
+use Rattle.signs.specs.Class.{plain}
+use Rattle.signs.proofs.Runs.{all-on, all-end}
 use borrow.Author.Needs.{needs}
-use Rattle.rules.proofs.class.are_plain.Statement.{statement}
-use Rattle.rules.proofs.class.are_plain.Tie as tie
+use Rattle.signs.proofs.are_plain.Statement.{statement}
+use Rattle.signs.proofs.are_plain.Tie as tie
 
 abbrev Inv-loop : tie.InvT-loop
 Inv-loop s kept₀ i₀ kept i = (i ≤ length s) × (kept && all plain (drop i s) ≡ all plain s)

@@ -1,8 +1,8 @@
--- `rules::class::belongs_to` meets its contract: each arm is its class's clause.
-use Rattle.rules.specs.Class.{belongs}
+-- `signs::belongs_to` meets its contract: each arm is its class's clause.
+use Rattle.signs.specs.Class.{belongs}
 use borrow.Author.Needs.{needs}
-use Rattle.rules.proofs.class.belongs_to.Statement.{statement}
-use Rattle.rules.proofs.class.belongs_to.Tie as tie
+use Rattle.signs.proofs.belongs_to.Statement.{statement}
+use Rattle.signs.proofs.belongs_to.Tie as tie
 
 enum-told : tie.Need-enum-told
 enum-told c = search needs

@@ -1,8 +1,8 @@
 // Classes of bytes, and fields made of one class.
 ghost use mathlib.Core.Path.{_≡_};
 ghost use Rattle.cells.specs.Bytes.{within, all, run};
-ghost use Rattle.rules.specs.Class.{plain, unassigned, allowed, belongs, allOf, ofClass, padded, named};
-ghost use Rattle.rules.specs.declared.class.Class.the-variants.{Allowed};
+ghost use Rattle.signs.specs.Class.{plain, unassigned, allowed, belongs, allOf, ofClass, padded, named};
+ghost use Rattle.signs.specs.declared.Class.the-variants.{Allowed};
 use cells::part;
 
 pub const BLANK: u8 = 32;

@@ -1,8 +1,8 @@
--- `rules::class::of_class` meets its contract, test by test.
-use Rattle.rules.specs.Class.{ofClass}
+-- `signs::of_class` meets its contract, test by test.
+use Rattle.signs.specs.Class.{ofClass}
 use borrow.Author.Needs.{needs}
-use Rattle.rules.proofs.class.of_class.Statement.{statement}
-use Rattle.rules.proofs.class.of_class.Tie as tie
+use Rattle.signs.proofs.of_class.Statement.{statement}
+use Rattle.signs.proofs.of_class.Tie as tie
 
 all-of-requires : tie.Need-all-of-requires
 all-of-requires c κs = search needs

@@ -1,10 +1,10 @@
--- `rules::class::all_of` meets its contract: any byte is of the class of any, and a test holds at each byte just where the run is the whole.
+-- `signs::all_of` meets its contract: any byte is of the class of any, and a test holds at each byte just where the run is the whole.
 use mathlib.Core.Path.{sym, refl}
-use Rattle.rules.specs.Class.{belongs, allOf}
-use Rattle.rules.proofs.Runs.{all-run, all-always}
+use Rattle.signs.specs.Class.{belongs, allOf}
+use Rattle.signs.proofs.Runs.{all-run, all-always}
 use borrow.Author.Needs.{needs}
-use Rattle.rules.proofs.class.all_of.Statement.{statement}
-use Rattle.rules.proofs.class.all_of.Tie as tie
+use Rattle.signs.proofs.all_of.Statement.{statement}
+use Rattle.signs.proofs.all_of.Tie as tie
 
 enum-told : tie.Need-enum-told
 enum-told c = search needs

@@ -1,15 +1,15 @@
--- `rules::class::run_of` meets its contract. The invariant: the bytes passed and the run of what is left make the run of the whole.
+-- `signs::run_of` meets its contract. The invariant: the bytes passed and the run of what is left make the run of the whole.
 use mathlib.Core.Path.{_≡_, sym, _∙_}
 use Prim.Native.Nat.{_+_, _-_, _≤_}
 use native.Mathlib.Omega.{arith}
 use lib.ListN.{length, drop}
 use Rattle.cells.specs.Bytes.{run}
 use Rattle.cells.proofs.Bools.{is-not, is-so}
-use Rattle.rules.specs.Class.{belongs}
-use Rattle.rules.proofs.Runs.{run-on, run-off, run-end}
+use Rattle.signs.specs.Class.{belongs}
+use Rattle.signs.proofs.Runs.{run-on, run-off, run-end}
 use borrow.Author.Needs.{needs}
-use Rattle.rules.proofs.class.run_of.Statement.{statement}
-use Rattle.rules.proofs.class.run_of.Tie as tie
+use Rattle.signs.proofs.run_of.Statement.{statement}
+use Rattle.signs.proofs.run_of.Tie as tie
 
 abbrev Inv-loop : tie.InvT-loop
 Inv-loop c s i₀ i = (i ≤ length s) × (run (belongs c) s ≡ i + run (belongs c) (drop i s))

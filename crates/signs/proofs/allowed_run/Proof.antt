@@ -1,13 +1,13 @@
--- `rules::class::allowed_run` meets its contract: where each byte is plain, and so allowed, the run is the whole.
+-- `signs::allowed_run` meets its contract: where each byte is plain, and so allowed, the run is the whole.
 use mathlib.Core.Path.{_∙_, sym}
 use Rattle.cells.proofs.Lists.{all-weaker}
-use Rattle.rules.specs.Class.{plain, belongs}
-use Rattle.rules.specs.declared.class.Class.the-variants.{Allowed}
-use Rattle.rules.proofs.Classes.{plain-allowed}
-use Rattle.rules.proofs.Runs.{all-whole}
+use Rattle.signs.specs.Class.{plain, belongs}
+use Rattle.signs.specs.declared.Class.the-variants.{Allowed}
+use Rattle.signs.proofs.Classes.{plain-allowed}
+use Rattle.signs.proofs.Runs.{all-whole}
 use borrow.Author.Needs.{needs}
-use Rattle.rules.proofs.class.allowed_run.Statement.{statement}
-use Rattle.rules.proofs.class.allowed_run.Tie as tie
+use Rattle.signs.proofs.allowed_run.Statement.{statement}
+use Rattle.signs.proofs.allowed_run.Tie as tie
 
 are-plain-requires : tie.Need-are-plain-requires
 are-plain-requires c κs = search needs

@@ -7,8 +7,8 @@ use borrow.Author.Tests.{leb-true, le-leb, lt-ltb}
 use lib.Dec.{leb, ltb}
 use Rattle.cells.specs.Bytes.{within}
 use Rattle.cells.proofs.Bools.{split, and-left, and-right}
-use Rattle.rules.specs.Class.{plain, unassigned, belongs}
-use Rattle.rules.specs.declared.class.Class.the-variants.{Allowed, Digit}
+use Rattle.signs.specs.Class.{plain, unassigned, belongs}
+use Rattle.signs.specs.declared.Class.the-variants.{Allowed, Digit}
 
 -- a plain byte is allowed
 pub plain-allowed : (b : ℕ) → plain b ≡ true → belongs Allowed b ≡ true

@@ -1,11 +1,11 @@
--- `rules::class::is_padded` meets its contract: the part up to the end is what is left.
+-- `signs::is_padded` meets its contract: the part up to the end is what is left.
 use native.Mathlib.Omega.{arith}
 use lib.ListN.{length}
 use Rattle.cells.proofs.Parts.{to-end}
-use Rattle.rules.specs.Class.{padded}
+use Rattle.signs.specs.Class.{padded}
 use borrow.Author.Needs.{needs}
-use Rattle.rules.proofs.class.is_padded.Statement.{statement}
-use Rattle.rules.proofs.class.is_padded.Tie as tie
+use Rattle.signs.proofs.is_padded.Statement.{statement}
+use Rattle.signs.proofs.is_padded.Tie as tie
 
 run-of-requires : tie.Need-run-of-requires
 run-of-requires c κs = search needs
