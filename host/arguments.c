@@ -115,7 +115,7 @@ static int take_grouping(struct request *request, const char *by)
     return by == NULL || request->choice.by == BY_SUPPLIER || strcmp(by, "school") == 0;
 }
 
-/* The names of files of records: none may be empty, standard input stands once at most. */
+/* The names of files: standard input stands once at most. */
 static int take_files(struct request *request, int count, char **names)
 {
     int dashes = 0;

@@ -62,14 +62,14 @@ void warn_of_no_roster(const struct book_file *file, const struct book *book)
 }
 
 int is_left_out(const struct book_file *file, const char *book, const char *name,
-                const char *digest)
+                const char *digest, const struct left_out_words *words)
 {
     const char *line = history_of_file(&file->history, book, digest);
     char note[NOTE_ROOM];
     if (line == NULL)
         return 0;
-    snprintf(note, sizeof note, "left out: these bytes were booked at %.*s; --again books them "
-             "once more", WHEN_WIDTH, line);
+    snprintf(note, sizeof note, "left out: these bytes were %s at %.*s; --again %s", words->done,
+             WHEN_WIDTH, line, words->again);
     complain(name, note);
     return 1;
 }
@@ -91,7 +91,8 @@ static int book_one(struct booking *booking, struct book_file *file, struct book
 static int book_or_leave(struct booking *booking, struct book_file *file, struct book *book,
                          struct input *input, struct saved *saved)
 {
-    if (booking->again || !is_left_out(file, saved->digest, input->name, input->digest))
+    static const struct left_out_words words = {"booked", "books them once more"};
+    if (booking->again || !is_left_out(file, saved->digest, input->name, input->digest, &words))
         return book_one(booking, file, book, input, saved);
     booking->left_out++;
     return 1;

@@ -23,10 +23,13 @@ int booking_run(struct booking *booking, struct book_file *file, struct book *bo
 /* Says on standard error where a run that books has no roster. */
 void warn_of_no_roster(const struct book_file *file, const struct book *book);
 
-/* Whether a file is left out, since its bytes were booked into this book before; it is said. The
+/* What is said of a file that is left out: what was done with it, and what --again does. */
+struct left_out_words { const char *done, *again; };
+
+/* Whether a file is left out, since its bytes were taken into this book before; it is said. The
    book at hand has the digest `book`. */
 int is_left_out(const struct book_file *file, const char *book, const char *name,
-                const char *digest);
+                const char *digest, const struct left_out_words *words);
 
 /* How many records came to which end. */
 void booking_print_tally(const struct booking *booking);

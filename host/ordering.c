@@ -165,13 +165,14 @@ static int put_earlier(struct ordering *ordering)
 /* Locks and loads the book, and orders the wishes in memory; nothing is saved yet. */
 static int prepare(struct ordering *ordering, const struct request *request)
 {
+    static const struct left_out_words words = {"ordered", "orders what the book does not have"};
     struct book_file *file = ordering->file;
     if (!retold_begin(&ordering->refused) || !find_today(ordering) || !book_file_lock(file) ||
         !book_file_load(file, &ordering->book) || !put_earlier(ordering))
         return 0;
     ordering->left_out = !request->again && is_left_out(file, file->loaded.digest,
                                                         ordering->list.name,
-                                                        ordering->list.digest);
+                                                        ordering->list.digest, &words);
     return ordering->left_out || take_wishes(ordering);
 }
 

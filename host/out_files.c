@@ -15,7 +15,9 @@
 enum {
     SUPPLIER_AT = WQ_KIND_WIDTH + ACCOUNT_WIDTH,    /* in an order */
     MARK_ROOM = 160,            /* what a run is told apart by, as text */
-    MOST_FILE = WQ_MOST_LINES * (WQ_MOST_RECORD + 2)
+    MOST_FILE = WQ_MOST_LINES * (WQ_MOST_RECORD + 2),
+    DIGITS_AT = sizeof WAIT_HEAD + RUN_DIGITS,      /* in the name of a file that waits */
+    OWN_NAME_AT = DIGITS_AT + FILE_DIGITS + 1
 };
 
 static int lacks_memory(void)
@@ -84,15 +86,18 @@ static void mark_run(struct out_files *out, const char *book)
 static void name_file(const struct out_files *out, struct out_file *file, const char *book)
 {
     const char *account = (const char *)file->account;
+    char digest[DIGEST_ROOM];
     int letters = WQ_ADDRESS_WIDTH;
     while (letters > 0 && account[letters - 1] == ' ')
         letters--;
     snprintf(file->name, sizeof file->name, "%.*s-%.*s-%.*s.bwa", letters, account,
              WQ_QUALIFIER_WIDTH, account + WQ_ADDRESS_WIDTH, BOOK_DIGITS, book);
-    snprintf(file->wait, sizeof file->wait, WAIT_HEAD "%s-%s", out->waiting.run, file->name);
+    digest_of((const uint8_t *)file->text, file->length, digest);
+    snprintf(file->wait, sizeof file->wait, WAIT_HEAD "%s-%.*s-%s", out->waiting.run, FILE_DIGITS,
+             digest, file->name);
 }
 
-/* A file of this name has these orders already: the book was taken back since. */
+/* A file of this name has these orders already: the book was taken back since, or is a copy. */
 static int is_free(const struct out_files *out, const char *name)
 {
     struct stat status;
@@ -100,8 +105,8 @@ static int is_free(const struct out_files *out, const char *name)
     if (!there && errno == ENOENT)
         return 1;
     if (there)
-        complain(name, "there is such a file of orders already, from before the book was taken "
-                 "back, as it seems; where it was not sent, move it away");
+        complain(name, "there is such a file already: these orders were put out before, by this "
+                 "book or one like it; where it was not sent, move it away");
     else
         complain_system(name, "cannot see whether there is such a file of orders");
     return 0;
@@ -175,9 +180,16 @@ static int collect(DIR *listed, const char *head, struct names *names)
     return errno == 0;
 }
 
+/* The own name of a file that waits; an empty one where its name is too short to have one. */
+static const char *own_name(const char *wait)
+{
+    size_t length = strlen(wait);
+    return wait + (length < OWN_NAME_AT ? length : OWN_NAME_AT);
+}
+
 static int compare_names(const void *one, const void *other)
 {
-    return strcmp(*(char *const *)one, *(char *const *)other);
+    return strcmp(own_name(*(char *const *)one), own_name(*(char *const *)other));
 }
 
 /* The names of all files that wait of a run, in order; returns 0, and has said why, where it cannot. */
@@ -213,20 +225,41 @@ static int read_waiting(int directory, const char *wait, struct input *input)
 }
 
 /* Whether the book has every order of a file that waits; gives how many they are. */
-static int book_has_orders(int directory, const char *wait, const struct book *book,
+static int book_has_orders(struct input *input, const char *wait, const struct book *book,
                            unsigned long *orders)
 {
-    struct input input;
     struct record order;
-    int all = read_waiting(directory, wait, &input);
-    for (*orders = 0; all && input_next(&input, &order); ++*orders) {
-        all = book_has_order(book, &order);
-        if (!all)
-            complain(wait, "this file waits with an order that the book does not have, so it is "
-                     "not put out; move it away");
+    for (*orders = 0; input_next(input, &order); ++*orders) {
+        if (book_has_order(book, &order))
+            continue;
+        complain(wait, "this file waits with an order that the book does not have, so it is not "
+                 "put out; move it away");
+        return 0;
     }
+    return 1;
+}
+
+/* Whether a file that waits is as it was written, as the digits in its name tell: no order is
+   lost. */
+static int is_as_written(const struct input *input, const char *wait)
+{
+    char digest[DIGEST_ROOM];
+    digest_of(input->bytes.start, input->bytes.length, digest);
+    if (*own_name(wait) != '\0' && strncmp(digest, wait + DIGITS_AT, FILE_DIGITS) == 0)
+        return 1;
+    complain(wait, "this file of orders waits and is not as it was written, so it is not put out");
+    return 0;
+}
+
+/* Whether a file that waits may be put out. */
+static int may_be_put(int directory, const char *wait, const struct book *book,
+                      unsigned long *orders)
+{
+    struct input input;
+    int fine = read_waiting(directory, wait, &input) &&
+               book_has_orders(&input, wait, book, orders) && is_as_written(&input, wait);
     input_leave(&input);
-    return all;
+    return fine;
 }
 
 /* Whether two names are those of one file: a run was killed while it had both. */
@@ -251,11 +284,11 @@ static int take_own_name(int directory, const char *wait, const char *name)
 
 /* Puts out one file. */
 static int put_file(int directory, const struct waiting *waiting, const char *wait,
-                    const char *name, const struct book *book)
+                    const struct book *book)
 {
+    const char *name = own_name(wait);
     unsigned long orders;
-    if (!book_has_orders(directory, wait, book, &orders) ||
-        !take_own_name(directory, wait, name))
+    if (!may_be_put(directory, wait, book, &orders) || !take_own_name(directory, wait, name))
         return 0;
     print_name(stdout, waiting->directory);
     printf("/%s: %lu order%s put out\n", name, orders, orders == 1 ? "" : "s");
@@ -271,7 +304,7 @@ int out_files_put(int directory, const struct waiting *waiting, const struct boo
     snprintf(head, sizeof head, WAIT_HEAD "%s-", waiting->run);
     put = find_waiting(directory, waiting, head, &names);
     for (size_t i = 0; put && i < names.count; i++)
-        put = put_file(directory, waiting, names.start[i], names.start[i] + strlen(head), book);
+        put = put_file(directory, waiting, names.start[i], book);
     *count = names.count;
     leave_names(&names);
     return put && directory_sync(directory, waiting->directory);

@@ -1,7 +1,8 @@
 /* The orders of a run, a file for each supplier, in the directory from which they are sent.
  *
- * A file is written whole and put on the disk under a name that begins with .wizqamul-wait-,
- * before the book is saved that has its orders; it takes its own name after that. So what has
+ * A file is written whole and put on the disk as .wizqamul-wait-RUN-DIGITS-NAME, with the mark of
+ * its run and the first digits of its own digest, before the book is saved that has its orders; it
+ * takes its own name after that. So what has
  * its own name may be sent: the book has its orders. A run that is killed leaves
  *   - before the book is in place, files that wait and that the book's log does not name: they
  *     are never put out;
@@ -20,9 +21,10 @@
 #define WAIT_HEAD ".wizqamul-wait-"
 
 enum {
-    BOOK_DIGITS = 16,           /* digits by which a file names its book */
+    BOOK_DIGITS = 16,           /* digits by which a file names its book, */
+    FILE_DIGITS = 16,           /* and one that waits itself */
     OUT_NAME_ROOM = WQ_ADDRESS_WIDTH + WQ_QUALIFIER_WIDTH + BOOK_DIGITS + sizeof "--.bwa",
-    WAIT_NAME_ROOM = sizeof WAIT_HEAD + RUN_ROOM + OUT_NAME_ROOM
+    WAIT_NAME_ROOM = sizeof WAIT_HEAD + RUN_ROOM + FILE_DIGITS + 1 + OUT_NAME_ROOM
 };
 
 /* The orders for one supplier. */
@@ -58,7 +60,7 @@ int out_files_wait(struct out_files *out, const char *book);
 void out_files_keep(struct out_files *out);
 
 /* Puts out what waits of a run in an open directory: each file takes its own name where the book
-   has all of its orders. Says of each on standard output how many they are, and gives how many
+   has all of its orders, and it is as it was written. Says of each on standard output how many they are, and gives how many
    files they were. */
 int out_files_put(int directory, const struct waiting *waiting, const struct book *book,
                   size_t *count);

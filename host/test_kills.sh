@@ -25,7 +25,7 @@ expect_all_in_files() {     # what it is
     for file in want_out/*; do
         name=${file##*/}
         there=fault/out/$name
-        [ -e "$there" ] || there=fault/out/.wizqamul-wait-$run-$name
+        [ -e "$there" ] || there=fault/out/.wizqamul-wait-$run-$(digest "$file" | cut -c 1-16)-$name
         cmp -s "$there" "$file" || fail "$1: the book has orders of $name that no file has"
     done
 }
@@ -141,7 +141,7 @@ orders_that_wait() {
     [ -z "$(ls -A fault/elsewhere)" ] || fail "an order while others wait in a directory that is away: a file came out"
     mv fault/away fault/out
     # A file that waits with an order that the book does not have is not put out.
-    wait=$(ls -A fault/out | head -n 1)
+    wait=$(ls -A fault/out | grep -e -24000-VD-)
     cp "fault/out/$wait" kept.wait
     for change in 's/A-1/A-7/' 's/A-2/A-8/' 's/43210/43211/' 's/24000/24001/' 's/EN0010/EN0011/' \
         's/9783442756841EN/9783120060017EN/' 's/841EN/841KN/' 's/B101/L101/' 's/EN0010.*/EN/'; do
@@ -162,8 +162,25 @@ orders_that_wait() {
     cp -rp fault kept_fault
     mkfifo "fault/out/$wait"
     run order fault/o fault/more.csv fault/elsewhere
-    [ $code -ne 124 ] || fail "a pipe that waits holds up an order"
+    expect_code 2 "a pipe that waits"
+    expect_err "$wait: this file of orders waits and is not as it was written" "a pipe that waits"
     rm -rf fault && mv kept_fault fault
+    # Nor one that lost an order, or its name.
+    for change in '$d' d; do
+        sed "$change" kept.wait >"fault/out/$wait"
+        run order fault/o fault/more.csv fault/elsewhere
+        expect_code 2 "a file that waits and lost an order"
+        expect_err "$wait: this file of orders waits and is not as it was written" "a file that waits and lost an order"
+        [ -z "$(ls fault/out)$(ls -A fault/elsewhere)" ] || fail "a file that waits and lost an order: it is out"
+    done
+    for lost in "${wait%????????????????????????????????????*}" "${wait%?24000*}" "${wait%24000*}"; do
+        mv "fault/out/$wait" "fault/out/$lost"
+        cp kept.wait "fault/out/$lost"
+        run order fault/o fault/more.csv fault/elsewhere
+        expect_code 2 "a file that waits and lost its name"
+        expect_err "$lost: this file of orders waits and is not as it was written" "a file that waits and lost its name"
+        mv "fault/out/$lost" "fault/out/$wait"
+    done
     cp kept.wait "fault/out/$wait"
     # A directory that cannot be read may hold orders that wait.
     run_injected "getdents64:error=EIO:when=$(awk '$1 == "getdents64" { print $2; exit }' order_points)" order o more.csv elsewhere
@@ -171,7 +188,7 @@ orders_that_wait() {
     expect_err "/fault/out: cannot look for the orders that wait: Input/output error" "a directory of orders that wait that cannot be read"
     [ -z "$(ls fault/out)$(ls -A fault/elsewhere)" ] || fail "a directory of orders that wait that cannot be read: something is out"
     # A file in the way of one that waits stays, and the next run goes on.
-    name=${wait#.wizqamul-wait-????????????????-}
+    name=${wait#.wizqamul-wait-????????????????-????????????????-}
     echo mine >"fault/out/$name"
     run order fault/o fault/more.csv fault/elsewhere
     expect_code 2 "a file in the way of one that waits"
@@ -211,7 +228,7 @@ orders_that_wait() {
     # Files that somebody put out by hand are not missed.
     orders_afresh
     order_injected "$put_out:signal=SIGKILL"
-    for wait in fault/out/.wizqamul*; do mv "$wait" "fault/out/${wait#fault/out/.wizqamul-wait-????????????????-}"; done
+    for wait in fault/out/.wizqamul*; do mv "$wait" "fault/out/${wait#fault/out/.wizqamul-wait-????????????????-????????????????-}"; done
     order_once
     expect_code 1 "orders that were put out by hand"
     expect_err "none is left here that waits" "orders that were put out by hand"

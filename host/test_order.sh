@@ -41,7 +41,7 @@ cp round.book.log kept.log
 copy_book round.book kept_round.book
 run order --roster roster.txt round.book wishes.csv out_day
 expect_code 1 "wishes that were ordered before"
-expect_err "wishes.csv: left out: these bytes were booked at 20" "wishes that were ordered before"
+expect_err "wishes.csv: left out: these bytes were ordered at 20" "wishes that were ordered before"
 [ ! -s out ] || fail "wishes that were ordered before: something is printed"
 expect_same round.book kept_round.book "wishes that were ordered before"
 expect_same round.book.log kept.log "wishes that were ordered before"
@@ -176,7 +176,7 @@ cp back.book.old back.book
 cp -r out_back kept_back
 run order back.book other.csv out_back
 expect_code 2 "orders that were put out before the book was taken back"
-expect_err "24000-VD-$book.bwa: there is such a file of orders already, from before the book was taken back" "orders that were put out before the book was taken back"
+expect_err "24000-VD-$book.bwa: there is such a file already: these orders were put out before, by this book or one like it" "orders that were put out before the book was taken back"
 expect_err "back.book: nothing was saved, and no order of these wishes was put out" "orders that were put out before the book was taken back"
 [ "$(tail -n 1 out)" = "nothing was saved: the book stands as it was before this run" ] || fail "orders that were put out before the book was taken back: this is not the last word"
 expect_not "wishes:" out "orders that were put out before the book was taken back"
@@ -185,7 +185,7 @@ diff -r out_back kept_back >/dev/null || fail "orders that were put out before: 
 rm out_back/24000-*
 run order back.book other.csv out_back
 expect_code 2 "one of these orders was put out before"
-expect_err "BUCH2-VD-$book.bwa: there is such a file of orders already" "one of these orders was put out before"
+expect_err "BUCH2-VD-$book.bwa: there is such a file already" "one of these orders was put out before"
 [ "$(ls -A out_back | wc -l)" -eq 1 ] || fail "one of these orders was put out before: a file came out"
 rm out_back/*
 ln -s nowhere out_back/BUCH2-VD-$book.bwa
