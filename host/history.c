@@ -262,31 +262,36 @@ static int begin_entry(struct addition *addition, const struct history *history,
     return 1;
 }
 
-int history_add_new(struct history *history, const char *to)
-{
-    struct addition addition;
-    if (!begin_entry(&addition, history, FROM_NEW, to))
-        return 0;
-    fputs("a new book\n", addition.stream);
-    return end(&addition, &history->log);
-}
-
-int history_add_accepted(struct history *history, const char *to)
-{
-    struct addition addition;
-    if (!begin_entry(&addition, history, FROM_ANY, to))
-        return 0;
-    fputs("a book taken on purpose\n", addition.stream);
-    return end(&addition, &history->log);
-}
-
-int history_add_moved(struct history *history, const char *from, const char *to)
+/* A line of the log that says a few words. */
+static int add_words(struct history *history, const char *from, const char *to, const char *words)
 {
     struct addition addition;
     if (!begin_entry(&addition, history, from, to))
         return 0;
-    fputs("a book moved to the other form\n", addition.stream);
+    fprintf(addition.stream, "%s\n", words);
     return end(&addition, &history->log);
+}
+
+int history_add_new(struct history *history, const char *to)
+{
+    return add_words(history, FROM_NEW, to, "a new book");
+}
+
+int history_add_accepted(struct history *history, const char *to)
+{
+    return add_words(history, FROM_ANY, to, "a book taken on purpose");
+}
+
+int history_add_moved(struct history *history, const char *from, const char *to)
+{
+    return add_words(history, from, to, "a book moved to the other form");
+}
+
+int history_add_out(struct history *history, const char *book, const char *run)
+{
+    char words[RUN_ROOM + sizeof "orders  are out"];
+    snprintf(words, sizeof words, "orders %s are out", run);
+    return add_words(history, book, book, words);
 }
 
 int history_add_past(struct history *history, const struct history *other)
@@ -324,15 +329,6 @@ int history_add_waiting(struct history *history, const char *book, const struct 
     fprintf(addition.stream, "orders %s " WAIT_IN, waiting->run);
     print_name(addition.stream, waiting->directory);
     fputc('\n', addition.stream);
-    return end(&addition, &history->log);
-}
-
-int history_add_out(struct history *history, const char *book, const char *run)
-{
-    struct addition addition;
-    if (!begin_entry(&addition, history, book, book))
-        return 0;
-    fprintf(addition.stream, "orders %s are out\n", run);
     return end(&addition, &history->log);
 }
 

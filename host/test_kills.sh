@@ -112,6 +112,15 @@ fault_everywhere() {
     expect_err ".bwa: cannot see whether there is such a file of orders: Permission denied" "a name that cannot be seen"
 }
 
+# Orders that wait cannot be put out, so the next run does nothing.
+not_put_out() {             # what is said, what it is, and the name of a file that is in out already
+    run order fault/o fault/more.csv fault/elsewhere
+    expect_code 2 "$2"
+    expect_err "$1" "$2"
+    expect_same fault/o booked.book "$2"
+    [ -z "$(ls fault/out 2>/dev/null | grep -vxF "${3:-}")$(ls -A fault/elsewhere)" ] || fail "$2: a file came out"
+}
+
 # A run that is killed when the book is in place: every other run says that orders wait.
 orders_that_wait() {
     orders_afresh
@@ -134,11 +143,7 @@ orders_that_wait() {
     mkdir fault/elsewhere
     echo 'school;supplier;reference;article;quantity
 43210;24000;W-9;9783442756841;1' >fault/more.csv
-    run order fault/o fault/more.csv fault/elsewhere
-    expect_code 2 "an order while others wait in a directory that is away"
-    expect_err "/fault/out: orders of an earlier run wait in this directory, which cannot be opened: No such file or directory" "an order while others wait in a directory that is away"
-    expect_same fault/o booked.book "an order while others wait in a directory that is away"
-    [ -z "$(ls -A fault/elsewhere)" ] || fail "an order while others wait in a directory that is away: a file came out"
+    not_put_out "/fault/out: orders of an earlier run wait in this directory, which cannot be opened: No such file or directory" "an order while others wait in a directory that is away"
     mv fault/away fault/out
     # A file that waits with an order that the book does not have is not put out.
     wait=$(ls -A fault/out | grep -e -24000-VD-)
@@ -146,39 +151,25 @@ orders_that_wait() {
     for change in 's/A-1/A-7/' 's/A-2/A-8/' 's/43210/43211/' 's/24000/24001/' 's/EN0010/EN0011/' \
         's/9783442756841EN/9783120060017EN/' 's/841EN/841KN/' 's/B101/L101/' 's/EN0010.*/EN/'; do
         sed "$change" kept.wait >"fault/out/$wait"
-        run order fault/o fault/more.csv fault/elsewhere
-        expect_code 2 "an order that waits and that the book does not have"
-        expect_err "this file waits with an order that the book does not have" "an order that waits and that the book does not have"
-        [ -z "$(ls fault/out)$(ls -A fault/elsewhere)" ] || fail "an order that waits and that the book does not have: it is out"
+        not_put_out "this file waits with an order that the book does not have" "an order that waits and that the book does not have"
     done
     # Nor is a link, and a pipe holds nothing up.
     rm "fault/out/$wait"
     ln -s ../../kept.wait "fault/out/$wait"
-    run order fault/o fault/more.csv fault/elsewhere
-    expect_code 2 "a link that waits"
-    expect_err "$wait: cannot read this file of orders that waits" "a link that waits"
-    [ -z "$(ls fault/out)" ] || fail "a link that waits: it is out"
+    not_put_out "$wait: cannot read this file of orders that waits" "a link that waits"
     rm "fault/out/$wait"
-    cp -rp fault kept_fault
     mkfifo "fault/out/$wait"
-    run order fault/o fault/more.csv fault/elsewhere
-    expect_code 2 "a pipe that waits"
-    expect_err "$wait: this file of orders waits and is not as it was written" "a pipe that waits"
-    rm -rf fault && mv kept_fault fault
+    not_put_out "$wait: this file of orders waits and is not as it was written" "a pipe that waits"
+    rm "fault/out/$wait"
     # Nor one that lost an order, or its name.
     for change in '$d' d; do
         sed "$change" kept.wait >"fault/out/$wait"
-        run order fault/o fault/more.csv fault/elsewhere
-        expect_code 2 "a file that waits and lost an order"
-        expect_err "$wait: this file of orders waits and is not as it was written" "a file that waits and lost an order"
-        [ -z "$(ls fault/out)$(ls -A fault/elsewhere)" ] || fail "a file that waits and lost an order: it is out"
+        not_put_out "$wait: this file of orders waits and is not as it was written" "a file that waits and lost an order"
     done
     for lost in "${wait%????????????????????????????????????*}" "${wait%?24000*}" "${wait%24000*}"; do
         mv "fault/out/$wait" "fault/out/$lost"
         cp kept.wait "fault/out/$lost"
-        run order fault/o fault/more.csv fault/elsewhere
-        expect_code 2 "a file that waits and lost its name"
-        expect_err "$lost: this file of orders waits and is not as it was written" "a file that waits and lost its name"
+        not_put_out "$lost: this file of orders waits and is not as it was written" "a file that waits and lost its name"
         mv "fault/out/$lost" "fault/out/$wait"
     done
     cp kept.wait "fault/out/$wait"
@@ -190,9 +181,7 @@ orders_that_wait() {
     # A file in the way of one that waits stays, and the next run goes on.
     name=${wait#.wizqamul-wait-????????????????-????????????????-}
     echo mine >"fault/out/$name"
-    run order fault/o fault/more.csv fault/elsewhere
-    expect_code 2 "a file in the way of one that waits"
-    expect_err "$name: cannot put out this file of orders, which waits: File exists" "a file in the way of one that waits"
+    not_put_out "$name: cannot put out this file of orders, which waits: File exists" "a file in the way of one that waits" "$name"
     [ "$(cat "fault/out/$name")" = mine ] || fail "a file in the way of one that waits: it is lost"
     rm "fault/out/$name"
     run order fault/o fault/more.csv fault/elsewhere
