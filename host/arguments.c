@@ -62,8 +62,7 @@ static int is_name(const char *argument)
 struct option { const char *name; int with; int *mark; char **word; };
 
 /* Sets what the option at the front of `left` arguments asks for; gives how many arguments it
-   takes, 0 where there is no such option, its word is missing, or it stands a second time with
-   another word. */
+   takes, 0 where there is no such option here, its word is missing, or it had a word before. */
 static int take_option(const struct option *option, int command, char **arguments, int left)
 {
     while (option->name != NULL && strcmp(arguments[0], option->name) != 0)

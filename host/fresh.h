@@ -17,7 +17,7 @@ struct rights {
 
 enum { PRIVATE_MODE = 0600 };   /* a file before it has its rights */
 
-/* The rights of a new file that belongs to nobody else's: what the umask leaves. */
+/* The rights that the umask leaves a new file. */
 struct rights rights_of_umask(void);
 
 /* A file belongs to whom the rights say, as far as the system lets us; 0 with errno set. */

@@ -197,8 +197,9 @@ static enum exit_code save_and_put(struct ordering *ordering)
     print_tally(ordering);
     if (taken == TAKE_DONE && put_out(ordering))
         return ALL_DONE;
-    complain(ordering->out.name, "orders may wait here that are not put out; the same command "
-             "again puts them out");
+    if (ordering->out.count > 0)
+        complain(ordering->out.name, "orders may wait here that are not put out; the same "
+                 "command again puts them out");
     return TROUBLE_AFTER_SAVE;
 }
 
@@ -215,7 +216,7 @@ static enum exit_code end_order(struct ordering *ordering, enum exit_code code)
 {
     const char *path = ordering->file->files.paths[OWN_BOOK];
     if (code == NOT_SAVED) {
-        complain(path, "nothing was saved, and no order of these wishes was put out");
+        complain(path, "nothing was saved, and nothing new was ordered");
         printf("nothing was saved: the book stands as it was before this run\n");
         fflush(stdout);
         return code;

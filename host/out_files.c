@@ -192,7 +192,8 @@ static int compare_names(const void *one, const void *other)
     return strcmp(own_name(*(char *const *)one), own_name(*(char *const *)other));
 }
 
-/* The names of all files that wait of a run, in order; returns 0, and has said why, where it cannot. */
+/* The names of all files that wait of a run, in the order of their own names; returns 0, and has
+   said why, where it cannot. */
 static int find_waiting(int directory, const struct waiting *waiting, const char *head,
                         struct names *names)
 {

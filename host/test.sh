@@ -47,6 +47,7 @@ expect_code() { [ "$code" -eq "$1" ] || fail "$2: exit code $code, not $1"; pass
 expect_out() { grep -qF -e "$1" out || fail "$2: no \"$1\" on standard output"; pass; }
 expect_err() { grep -qF -e "$1" err || fail "$2: no \"$1\" on standard error"; pass; }
 expect_not() { ! grep -qF -e "$1" "$2" || fail "$3: \"$1\" is said"; pass; }
+expect_silent_out() { [ ! -s out ] || fail "$1: something is said on standard output"; pass; }
 expect_silent() { [ ! -s err ] || fail "$1: something is said on standard error"; pass; }
 expect_same() { cmp -s "$1" "$2" || fail "$3: $1 and $2 differ"; pass; }
 expect_none() { [ ! -e "$1" ] && [ ! -h "$1" ] || fail "$2: $1 is there"; pass; }
@@ -54,6 +55,14 @@ expect_mode() { case $(ls -l "$1") in "$2"*) pass ;; *) fail "$3: the rights of 
 expect_text() {     # the file with what was said, the file with what should be, what it is
     cmp -s "$1" "$2" || { diff "$2" "$1" | head -10 >&2; fail "$3: something else is said"; }
     pass
+}
+expect_usage() {    # what it is; then the arguments, which are wrong use: only how to use it is said
+    what=$1
+    shift
+    run "$@"
+    expect_code 2 "$what"
+    expect_err "usage:" "$what"
+    expect_silent_out "$what"
 }
 digest() { sha256sum <"$1" | cut -c 1-64; }
 

@@ -145,11 +145,7 @@ expect_none huge.book "a file without end"
 
 # --- wrong use ------------------------------------------------------------------------------------------------
 wrong_use() {   # what it is; then the arguments
-    what=$1
-    shift
-    run "$@"
-    expect_code 2 "$what"
-    expect_err "usage:" "$what"
+    expect_usage "$@"
     expect_same two.book open.book "$what"
 }
 wrong_use "no arguments"

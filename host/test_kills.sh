@@ -267,6 +267,20 @@ orders_meanwhile() {
     expect_err "out: not all files of orders are there any more" "a file of orders that somebody takes away"
 }
 
+# Where no wish is accepted nothing can wait, though what was saved may not be on the disk.
+nothing_waits() {
+    orders_afresh
+    sed 's/;[0-9]*$/;0/' calm_orders/wishes.csv >fault/none.csv
+    run_injected "" order o none.csv out
+    expect_code 1 "no wish accepted, traced"
+    last=$(list_points | awk '$1 == "fsync" { last = $2 } END { print last }')
+    orders_afresh
+    sed 's/;[0-9]*$/;0/' calm_orders/wishes.csv >fault/none.csv
+    run_injected "fsync:error=EIO:when=$last" order o none.csv out
+    expect_code 3 "no wish accepted, and a log that may not be on the disk"
+    expect_not "orders may wait" err "no wish accepted, and a log that may not be on the disk"
+}
+
 # Where the file system cannot take a free name in one step, a file has both names for a moment.
 put_out_by_links() {
     also="renameat2:error=EINVAL"
@@ -347,6 +361,7 @@ if strace -f -o /dev/null -e trace=getppid -e inject=getppid:error=EIO true 2>/d
     kill_everywhere
     fault_everywhere
     orders_that_wait
+    nothing_waits
     orders_meanwhile
     put_out_by_links
 else

@@ -154,7 +154,6 @@ over_itself() {     # the name, what it is
     done
     expect_tidy . "$2"
 }
-expect_silent_out() { [ ! -s out ] || fail "$1: something is said on standard output"; pass; }
 over_itself read_old.book "over itself"
 over_itself ./read_old.book "over itself, by a dot"
 over_itself place/../read_old.book "over itself, by a way round"
@@ -248,12 +247,7 @@ run --to-new former.book notes/x.book
 expect_code 2 "into a file"
 expect_err "cannot find the book or its directory: Not a directory" "into a file"
 wrong_move() {      # what it is; then the arguments
-    what=$1
-    shift
-    run "$@"
-    expect_code 2 "$what"
-    expect_err "usage:" "$what"
-    expect_silent_out "$what"
+    expect_usage "$@"
     nothing_made x.book "$what"
 }
 wrong_move "a move of nothing" --to-new

@@ -177,7 +177,7 @@ cp -r out_back kept_back
 run order back.book other.csv out_back
 expect_code 2 "orders that were put out before the book was taken back"
 expect_err "24000-VD-$book.bwa: there is such a file already: these orders were put out before, by this book or one like it" "orders that were put out before the book was taken back"
-expect_err "back.book: nothing was saved, and no order of these wishes was put out" "orders that were put out before the book was taken back"
+expect_err "back.book: nothing was saved, and nothing new was ordered" "orders that were put out before the book was taken back"
 [ "$(tail -n 1 out)" = "nothing was saved: the book stands as it was before this run" ] || fail "orders that were put out before the book was taken back: this is not the last word"
 expect_not "wishes:" out "orders that were put out before the book was taken back"
 expect_same back.book plain_round.book "orders that were put out before the book was taken back"

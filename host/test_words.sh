@@ -77,12 +77,7 @@ expect_out "Open copies against the ceilings of roster.txt" "options between the
 # --- wrong use: nothing is done -----------------------------------------------------------------------------------
 mkdir wrong_out
 wrong_word() {  # what it is; then the arguments
-    what=$1
-    shift
-    run "$@"
-    expect_code 2 "$what"
-    expect_err "usage:" "$what"
-    [ ! -s out ] || fail "$what: something is printed"
+    expect_usage "$@"
     expect_same between.book word.book "$what"
     [ -z "$(ls -A wrong_out)" ] || fail "$what: a file came out"
 }
