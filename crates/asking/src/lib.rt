@@ -1,4 +1,6 @@
 // The call by key: the figures of a line. The fields are of their lengths, and make the key of a line.
+#![tactic(auto)]
+
 ghost use Rattle.std.specs.Prelude.{◌≡◌, true, [], ◌∷◌, map};
 ghost use Rattle.cells.specs.Bytes.{joined};
 ghost use Rattle.book.specs.Lent.{lent, sound, find_line};

@@ -7,7 +7,7 @@ use entry::report::Reported;
 use record::answer::{Refusal, refusal_number, refusal_place};
 use rules::amount::Copies;
 
-#[derive(Drop)]
+#[derive(Clone, Copy)]
 pub enum Refused {
     // The lent book is unsound, or a room or the roster is of wrong size.
     Unsound,
@@ -33,7 +33,7 @@ pub enum Refused {
 }
 
 // A refusal, or the index of the line that is added or changed.
-#[derive(Drop)]
+#[derive(Clone, Copy)]
 pub enum Verdict {
     Refuse(Refused),
     Fits(usize),
@@ -41,7 +41,7 @@ pub enum Verdict {
 
 // What is told of a line: the answer number and place of document 01, its figures, and what its last report said.
 #[repr(C)]
-#[derive(Drop)]
+#[derive(Clone, Copy)]
 pub struct Told {
     pub answer: u64,
     pub place: usize,
@@ -56,7 +56,7 @@ pub const NOT_AGREED: u64 = 0;
 
 // What is told of a record's line, and whether the record named the line's article.
 #[repr(C)]
-#[derive(Drop)]
+#[derive(Clone, Copy)]
 pub struct Booked {
     pub answer: u64,
     pub place: usize,

@@ -1,2 +1,4 @@
 // What is told of the lent book: its answers.
+#![tactic(auto)]
+
 pub mod answer;

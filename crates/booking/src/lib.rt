@@ -1,4 +1,6 @@
 // The public call of booking: a record booked into a lent book.
+#![tactic(auto)]
+
 ghost use Rattle.std.specs.Prelude.{◌≡◌, true, ◌&&◌, ◌≤◌, length};
 ghost use Rattle.roster.specs.Roster.{roster_sound};
 ghost use Rattle.record.specs.Layout.{fixed_width};

@@ -1,4 +1,6 @@
 // The desk program: books the records on standard input into rooms for 256 lines and 512 slips, and prints one line each.
+#![tactic(auto)]
+
 ghost use Rattle.std.specs.Prelude.{◌≡◌, ◌≤◌};
 ghost use Rattle.entry.specs.Report.{most_message};
 ghost use Rattle.desk.specs.Printed.{kind_letter, is_message, message_digits};
@@ -18,7 +20,7 @@ const LINES_ROOM: usize = 16896;
 const SLIPS_ROOM: usize = 25600;
 
 // What came since the last CR LF, how many records came before, and whether there is more to read.
-#[derive(Drop)]
+#[derive(Clone, Copy)]
 struct Reading {
     held: Held,
     number: u64,

@@ -1,4 +1,6 @@
 // A record entered, once the book has said where it fits: straight-line code.
+#![tactic(auto)]
+
 ghost use Rattle.std.specs.Prelude.{◌≡◌, ◌+◌, ◌*◌, ◌≤◌, ◌<◌, length, get_or};
 ghost use Rattle.record.specs.Layout.{fixed_width};
 ghost use Rattle.entry.specs.Stored.{line_width, slip_width, most_arrived, line_at};

@@ -8,7 +8,7 @@ use rules::amount::Copies;
 use rules::expected::Expected;
 
 // The last report mark: none, J or N.
-#[derive(Drop)]
+#[derive(Clone, Copy)]
 pub enum Mark {
     Unmarked,
     Held,
@@ -16,7 +16,7 @@ pub enum Mark {
 }
 
 // The ordered quantity Q, the sum A of its slips, and what its last report said: mark, message and expected date.
-#[derive(Drop)]
+#[derive(Clone, Copy)]
 pub struct Line {
     pub ordered: Copies,
     pub arrived: Copies,
@@ -26,7 +26,7 @@ pub struct Line {
 }
 
 #[repr(C)]
-#[derive(Drop)]
+#[derive(Clone, Copy)]
 pub struct Figures {
     pub ordered: Copies,
     pub filled: Copies,

@@ -10,7 +10,7 @@ use rules::expected::{Expected, expected_of};
 use rules::rule::is_expected;
 
 // The last message: no report so far, a report whose number is not known any more, or its number; 000 is a number like any other.
-#[derive(Drop)]
+#[derive(Clone, Copy)]
 pub enum Message {
     NoReport,
     Unknown,
@@ -43,7 +43,7 @@ const EIGHT_BLANKS: u64 = 3;
 
 // A last report as it is told: message number, the form of its expected date, and its day, zeros where that is none.
 #[repr(C)]
-#[derive(Drop)]
+#[derive(Clone, Copy)]
 pub struct Reported {
     pub message: u64,
     pub expected: u64,

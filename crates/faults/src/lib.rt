@@ -1,4 +1,6 @@
 // The fields of lent parts, judged where the parts stand, and how long they become.
+#![tactic(auto)]
+
 ghost use Rattle.std.specs.Prelude.{◌≡◌, ◌+◌, ◌*◌, ◌^◌, ◌≤◌, length};
 ghost use Rattle.parts.specs.Loops.{most_parts, are_loops};
 ghost use Rattle.parts.specs.Part.{most_digits, price_width, part_width, lent_price, lent_article};

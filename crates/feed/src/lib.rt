@@ -1,4 +1,6 @@
 // The bytes of a file cut into records, one byte at a time, in bounded memory.
+#![tactic(auto)]
+
 ghost use Rattle.std.specs.Prelude.{◌≡◌, ◌+◌, min, []};
 ghost use Rattle.feed.specs.Cut.{most_counted, held_of, ends_now, held_next, buffer_next, ended_length, left_length};
 
@@ -13,7 +15,7 @@ const MOST_HELD: usize = 1025;
 const MOST_COUNTED: usize = 1026;
 
 // How many bytes came since the last CR LF, counted up to MOST_COUNTED, and whether the last of them is a CR.
-#[derive(Drop)]
+#[derive(Clone, Copy)]
 pub struct Held {
     pub count: usize,
     pub cr: bool,

@@ -1,3 +1,5 @@
 // The used entries of a lent book: searched, and judged sound.
+#![tactic(auto)]
+
 pub mod keyed;
 pub mod seek;

@@ -6,7 +6,6 @@ use lib.ListN.{length, length-append}
 use mir.Val.{Val}
 use denote.Laws.{Is}
 use denote.Struct.Declared.{row}
-use borrow.Author.Rules.{length_unmapped}
 use Rattle.cells.specs.Bytes.{joined}
 use Rattle.record.specs.declared.values.Party.{Party}
 use Rattle.record.specs.declared.values.Article.{Article}
@@ -53,25 +52,21 @@ pub record ReportWide (m : Report) : Type 0 where
   pub reference : length m.reference ≡ 10
   pub article : ArticleWide m.article
 
--- an array's list has the array's length
-wide : (l : List ℕ) {n : ℕ} → length (map (λ (v : ℕ). v) l) ≡ n → length l ≡ n
-wide l {n} e = length_unmapped ℕ l n e
-
 -- what owning a value tells of its parts, which stand in the order of its fields
 pub party_wide : (p : Party) (vs : List Val) → Is (row party.the_type) p vs → PartyWide p
 party_wide p vs g =
     let address = g.1.1 in
     record {
-      address = wide p.address address.0.1.0.1;
-      qualifier = wide p.qualifier address.1.0.1.0.1;
+      address = address.0.1.0.1;
+      qualifier = address.1.0.1.0.1;
     }
 
 pub article_wide : (a : Article) (vs : List Val) → Is (row article.the_type) a vs → ArticleWide a
 article_wide a vs g =
     let number = g.1.1 in
     record {
-      number = wide a.number number.0.1.0.1;
-      qualifier = wide a.qualifier number.1.0.1.0.1;
+      number = number.0.1.0.1;
+      qualifier = number.1.0.1.0.1;
     }
 
 pub order_wide : (o : Order) (vs : List Val) → Is (row order.the_type) o vs → OrderWide o
@@ -82,9 +77,9 @@ order_wide o vs g =
     record {
       sender = party_wide o.sender _ sender.0;
       recipient = party_wide o.recipient _ sender.1.0;
-      reference = wide o.reference reference.0.1.0.1;
+      reference = reference.0.1.0.1;
       article = article_wide o.article _ (article).0;
-      measure = wide o.measure (article).1.1.0.1.0.1;
+      measure = (article).1.1.0.1.0.1;
     }
 
 pub delivery_wide : (d : Delivery) (vs : List Val) → Is (row delivery.the_type) d vs → DeliveryWide d
@@ -97,12 +92,12 @@ delivery_wide d vs g =
     record {
       sender = party_wide d.sender _ sender.0;
       recipient = party_wide d.recipient _ sender.1.0;
-      slip = wide d.slip slip.0.1.0.1;
-      position = wide d.position slip.1.0.1.0.1;
-      reference = wide d.reference reference.0.1.0.1;
+      slip = slip.0.1.0.1;
+      position = slip.1.0.1.0.1;
+      reference = reference.0.1.0.1;
       article = article_wide d.article _ (article).0;
-      pricing = wide d.pricing pricing.0.1.0.1;
-      currency = wide d.currency pricing.1.0.1.0.1;
+      pricing = pricing.0.1.0.1;
+      currency = pricing.1.0.1.0.1;
     }
 
 pub report_wide : (m : Report) (vs : List Val) → Is (row report.the_type) m vs → ReportWide m
@@ -113,8 +108,8 @@ report_wide m vs g =
     record {
       sender = party_wide m.sender _ sender.0;
       recipient = party_wide m.recipient _ sender.1.0;
-      slip = wide m.slip slip.0.1.0.1;
-      reference = wide m.reference reference.0.1.0.1;
+      slip = slip.0.1.0.1;
+      reference = reference.0.1.0.1;
       article = article_wide m.article _ reference.1.0;
     }
 

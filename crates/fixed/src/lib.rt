@@ -1,4 +1,6 @@
 // The fixed part's bytes of a typed record. A value outside its range becomes bytes that break its field.
+#![tactic(auto)]
+
 ghost use Rattle.std.specs.Prelude.{◌≡◌, [], ◌∷◌, ◌++◌, ◌+◌, ◌≤◌, length};
 ghost use Rattle.std.proofs.lemmas.List.Edits.{sets};
 ghost use Rattle.rules.specs.Day.{day_width};

@@ -1,4 +1,6 @@
 // A line of a save, put: the front that a body says, and an entry of either form.
+#![tactic(auto)]
+
 ghost use Rattle.std.specs.Prelude.{◌≡◌, ◌∷◌, ◌+◌, ◌≤◌, length, take};
 ghost use Rattle.std.proofs.lemmas.List.Edits.{sets};
 ghost use Rattle.save.specs.Form.{front_width, line_kind, line_body_width, unsaved_width, unsaved_message, unsaved, front_of, saved_line_width};

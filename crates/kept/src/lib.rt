@@ -1,4 +1,6 @@
 // An entry of a saved book, judged by its body.
+#![tactic(auto)]
+
 ghost use Rattle.std.specs.Prelude.{◌≡◌, [], ◌∷◌, ◌+◌, ◌*◌, ◌≤◌, eqb, length};
 ghost use Rattle.save.specs.Entries.{reference_at, slip_number_at, line_fields, goods_fields, fields_kept, report_kept, line_kept, parties_agree, slip_kept};
 ghost use Rattle.save.specs.Form.{line_body_width, front_of, saved_line_width, slips_at};

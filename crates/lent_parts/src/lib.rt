@@ -1,2 +1,4 @@
 // The parts that stand in a lent room, as values.
+#![tactic(auto)]
+
 pub mod lent;

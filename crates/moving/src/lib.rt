@@ -1,4 +1,6 @@
 // The public calls that move a save from the old form to the new one and back.
+#![tactic(auto)]
+
 ghost use Rattle.std.specs.Prelude.{◌≡◌, true, ◌+◌, ◌≤◌, ◌<◌, length};
 ghost use Rattle.std.proofs.lemmas.List.Edits.{sets};
 ghost use Rattle.save.specs.Form.{slips_at};

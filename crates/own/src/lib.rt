@@ -1,4 +1,6 @@
 // A record booked with a roster of its own entry alone, for a desk that has no roster.
+#![tactic(auto)]
+
 ghost use Rattle.std.specs.Prelude.{◌≡◌, ◌≤◌, length};
 ghost use Rattle.record.specs.Layout.{kind_of};
 ghost use Rattle.book.specs.Lent.{lent};

@@ -1,4 +1,6 @@
 // Writing a record with parts: the public call, over what writing is lent and a room with parts.
+#![tactic(auto)]
+
 pub mod whole;
 
 ghost use Rattle.std.specs.Prelude.{◌≡◌};

@@ -1,4 +1,6 @@
 // Reads the records on standard input, one to a CR LF, prints of each the answer, the typed values and the optional fields, and writes it back.
+#![tactic(auto)]
+
 ghost use Rattle.std.specs.Prelude.{◌≤◌, length};
 
 use cells::{part, same};

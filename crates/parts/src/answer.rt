@@ -4,7 +4,7 @@ ghost use Rattle.parts.specs.Answers.{refusal_number, read_of, not_written};
 
 use writing::answer::Written;
 
-#[derive(Drop)]
+#[derive(Clone, Copy)]
 pub enum Refusal {
     // The room has not place for the parts.
     SmallRoom,
@@ -14,7 +14,7 @@ pub enum Refusal {
 }
 
 // A refusal, or the number of parts.
-#[derive(Drop)]
+#[derive(Clone, Copy)]
 pub enum Verdict {
     Refused(Refusal),
     Fits(usize),
@@ -22,7 +22,7 @@ pub enum Verdict {
 
 // The answer number and place, and the number of parts.
 #[repr(C)]
-#[derive(Drop)]
+#[derive(Clone, Copy)]
 pub struct PartsRead {
     pub answer: u64,
     pub place: usize,

@@ -6,14 +6,14 @@ use cells::same;
 use rules::amount::Price;
 
 // A part is a thing that is sent, or a digital service.
-#[derive(Drop)]
+#[derive(Clone, Copy)]
 pub enum Medium {
     Physical,
     Digital,
 }
 
 // A price with the number of digits that it is written with.
-#[derive(Drop)]
+#[derive(Clone, Copy)]
 pub struct PartPrice {
     pub amount: Price,
     pub digits: u8,
@@ -22,14 +22,14 @@ pub struct PartPrice {
 }
 
 // An article in front of its bytes, with zeros behind its length.
-#[derive(Drop)]
+#[derive(Clone, Copy)]
 pub struct PartArticle {
     pub length: u8,
     pub bytes: [u8; 35],
     pub qualifier: [u8; 2],
 }
 
-#[derive(Drop)]
+#[derive(Clone, Copy)]
 pub struct Part {
     pub tax: u8,
     pub medium: Medium,

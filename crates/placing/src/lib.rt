@@ -1,4 +1,6 @@
 // What a sound book says where a record would stand in it: nothing is written yet.
+#![tactic(auto)]
+
 ghost use Rattle.std.specs.Prelude.{◌≡◌, true, map, ◌+◌, ◌*◌, ◌≤◌, ◌<◌, length};
 ghost use Rattle.cells.specs.Bytes.{joined};
 ghost use Rattle.entry.specs.Stored.{line_width, slip_width, most_copies, most_arrived, line_at, slip_line_at};

@@ -1,4 +1,6 @@
 // Reading a record: judged whole, with the table of its optional fields, and into typed values.
+#![tactic(auto)]
+
 ghost use Rattle.std.specs.Prelude.{◌≡◌, ◌≤◌, length, drop};
 ghost use Rattle.record.specs.Layout.{fixed_width, kind_of};
 ghost use Rattle.record.specs.Read.{optional_judged, kind_judged, judged, outcome, optional_start, check, judged_as, read_order, read_delivery, read_report};

@@ -5,7 +5,7 @@ ghost use Rattle.record.specs.Answers.{refusal_number, refusal_place, checked_of
 use crate::layout::MOST_BYTES;
 use crate::values::{Delivery, Order, Report};
 
-#[derive(Drop)]
+#[derive(Clone, Copy)]
 pub enum Refusal {
     TooLong,
     UnknownKind,
@@ -28,7 +28,7 @@ pub enum Refusal {
 }
 
 // A refusal, or the number of optional fields before *9999.
-#[derive(Drop)]
+#[derive(Clone, Copy)]
 pub enum Verdict {
     Refused(Refusal),
     Fits(usize),
@@ -36,26 +36,26 @@ pub enum Verdict {
 
 // The answer number and place of document 01, and the number of optional fields.
 #[repr(C)]
-#[derive(Drop)]
+#[derive(Clone, Copy)]
 pub struct Checked {
     pub answer: u64,
     pub place: usize,
     pub fields: usize,
 }
 
-#[derive(Drop)]
+#[derive(Clone, Copy)]
 pub struct ReadOrder {
     pub checked: Checked,
     pub order: Order,
 }
 
-#[derive(Drop)]
+#[derive(Clone, Copy)]
 pub struct ReadDelivery {
     pub checked: Checked,
     pub delivery: Delivery,
 }
 
-#[derive(Drop)]
+#[derive(Clone, Copy)]
 pub struct ReadReport {
     pub checked: Checked,
     pub report: Report,

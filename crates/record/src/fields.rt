@@ -8,7 +8,7 @@ pub const HEAD_WIDTH: usize = 5;
 pub const ENTRY_WIDTH: usize = 3;
 
 // What stands where an optional field should start: its ID, or no field.
-#[derive(Drop)]
+#[derive(Clone, Copy)]
 pub enum Head {
     Id(usize),
     Missing,

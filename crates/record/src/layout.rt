@@ -35,13 +35,13 @@ pub const REPORT_FIELDS: usize = 13;
 const HEAD_FIELDS: usize = 5;
 
 // A fixed field: its length and its rule.
-#[derive(Drop)]
+#[derive(Clone, Copy)]
 pub struct Field {
     pub size: usize,
     pub rule: Rule,
 }
 
-#[derive(Drop)]
+#[derive(Clone, Copy)]
 pub enum Kind {
     Order,
     Goods,
@@ -50,7 +50,7 @@ pub enum Kind {
 }
 
 // The kind that a record's first bytes name, if any.
-#[derive(Drop)]
+#[derive(Clone, Copy)]
 pub enum Kinded {
     Known(Kind),
     Unknown,

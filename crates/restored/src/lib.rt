@@ -1,1 +1,2 @@
 // Theorems about saving and loading. No code.
+#![tactic(auto)]

@@ -1,8 +1,6 @@
 -- Whoever holds a share of schools in memory knows that each is formed: ten bytes, two bytes, and a number of four. So any walk that looks into the slice has the premise of `Agreement`.
-use mathlib.Core.Path.{sym, ◌∙◌}
 use mathlib.Core.List.{List, [], ◌∷◌}
 use Prim.Native.Nat.{ℕ, ◌+◌}
-use lib.ListN.{length-map}
 use seplogic.Ra.Ura.{Ura}
 use mir.Val.{Val}
 use base.Logic.{ent, guard_i}
@@ -24,8 +22,8 @@ one_formed : (s : School) (vs : List Val) → Is T.the_row s vs → Formed s
 one_formed s vs g =
     let h = LL.owed T.the_type T'.the_laws s vs g in
     record {
-      address_is = sym (length-map s.address (λ (b : ℕ). b)) ∙ h.0.1.0.1;
-      qualifier_is = sym (length-map s.qualifier (λ (b : ℕ). b)) ∙ h.1.0.1.0.1;
+      address_is = h.0.1.0.1;
+      qualifier_is = h.1.0.1.0.1;
       ceiling_fits = h.1.1.0.1;
     }
 

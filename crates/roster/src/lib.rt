@@ -1,4 +1,6 @@
 // The roster in lent bytes: an entry for each school of the desk, address, qualifier and ceiling. The first entry with an account speaks for it.
+#![tactic(auto)]
+
 ghost use Rattle.std.specs.Prelude.{◌≡◌, ◌*◌, ◌+◌, ◌≤◌, length};
 ghost use Rattle.roster.specs.Roster.{entry_width, roster_sound, account_is, find_account, standing};
 
@@ -16,7 +18,7 @@ pub const ACCOUNT_WIDTH: usize = 12;
 pub const MOST_SCHOOLS: usize = 64;
 
 // What the roster says of an account: its ceiling, or that it is not on it.
-#[derive(Drop)]
+#[derive(Clone, Copy)]
 pub enum Standing {
     On(u64),
     Off,

@@ -8,7 +8,7 @@ use cells::{same, same_wide};
 
 // An entry of the roster: in memory the 16 bytes of one.
 #[repr(C)]
-#[derive(Drop)]
+#[derive(Clone, Copy)]
 pub struct School {
     pub address: [u8; 10],
     pub qualifier: [u8; 2],
@@ -17,7 +17,7 @@ pub struct School {
 
 // What is told of an account: 0 and its ceiling, or a refusal.
 #[repr(C)]
-#[derive(Drop)]
+#[derive(Clone, Copy)]
 pub struct AccountTold {
     pub answer: u64,
     pub place: usize,

@@ -5,16 +5,16 @@ ghost use Rattle.rules.specs.Values.{price_of, discount_of, copies_of};
 use crate::number::number_of;
 
 // Ten-thousandths of the currency.
-#[derive(Drop)]
+#[derive(Clone, Copy)]
 pub struct Price(pub u64);
 
 // Ten-thousandths of a percent.
-#[derive(Drop)]
+#[derive(Clone, Copy)]
 pub struct Discount(pub u64);
 
 // So many copies; a number of 64 bits for C too.
 #[repr(C)]
-#[derive(Drop)]
+#[derive(Clone, Copy)]
 pub struct Copies(pub u64);
 
 pub fn price_of(s: &[u8]) -> Price

@@ -7,7 +7,7 @@ ghost use Rattle.signs.specs.declared.Class.TheVariants.{Digit};
 use crate::number::pair_at;
 use signs::{NINE, ZERO};
 
-#[derive(Drop)]
+#[derive(Clone, Copy)]
 pub struct Day {
     pub year: u64,
     pub month: u64,
@@ -15,7 +15,7 @@ pub struct Day {
 }
 
 // Eight digits: a real day, or none.
-#[derive(Drop)]
+#[derive(Clone, Copy)]
 pub enum Dated {
     Real(Day),
     Unreal,

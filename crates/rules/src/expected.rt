@@ -6,7 +6,7 @@ use crate::day::{Dated, Day};
 use signs::{Class, all_of};
 
 // A day, eight zeros (document 001) or eight blanks (document 004); which of the three it was is kept.
-#[derive(Drop)]
+#[derive(Clone, Copy)]
 pub enum Expected {
     On(Day),
     Zeros,

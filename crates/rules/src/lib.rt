@@ -1,4 +1,6 @@
 // What a field of a record may hold, as data, and what it says.
+#![tactic(auto)]
+
 pub mod amount;
 pub mod article;
 pub mod day;

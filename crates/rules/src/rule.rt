@@ -14,7 +14,7 @@ use signs::{Class, is_named, is_padded, of_class};
 const MOST_DAYS: u64 = 360;
 
 // Texts that a field may hold.
-#[derive(Drop)]
+#[derive(Clone, Copy)]
 pub enum Texts {
     Party,
     Numbering,
@@ -29,7 +29,7 @@ pub enum Texts {
     ListPrice,
 }
 
-#[derive(Drop)]
+#[derive(Clone, Copy)]
 pub enum Rule {
     // Anything.
     Free,

@@ -3,7 +3,7 @@ ghost use Rattle.std.specs.Prelude.{◌≡◌};
 ghost use Rattle.save.specs.Saved.{refused_number, not_saved, saved_as};
 ghost use Rattle.save.specs.Load.{not_loaded};
 
-#[derive(Drop)]
+#[derive(Clone, Copy)]
 pub enum Refused {
     // The lent book is unsound, or a room is of wrong size.
     Unsound,
@@ -17,7 +17,7 @@ pub enum Refused {
 
 // The answer number and place of document 01, and how long the save is.
 #[repr(C)]
-#[derive(Drop)]
+#[derive(Clone, Copy)]
 pub struct Saved {
     pub answer: u64,
     pub place: usize,
@@ -26,7 +26,7 @@ pub struct Saved {
 
 // The answer number and place of document 01.
 #[repr(C)]
-#[derive(Drop)]
+#[derive(Clone, Copy)]
 pub struct Loaded {
     pub answer: u64,
     pub place: usize,

@@ -5,7 +5,7 @@ ghost use Rattle.save.specs.Form.{line_kind, line_body_width, saved_line_width, 
 use stored::{ARRIVED_AT, MESSAGE_AT};
 
 // Old: without messages and expected dates. New: with them, and the one that is written.
-#[derive(Drop)]
+#[derive(Clone, Copy)]
 pub enum Form {
     Old,
     New,

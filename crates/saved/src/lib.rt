@@ -1,4 +1,6 @@
 // Bytes judged as a save of a form. Repeated keys and sums are found by scanning the save.
+#![tactic(auto)]
+
 ghost use Rattle.std.specs.Prelude.{◌≡◌, ◌+◌, ◌*◌, ◌≤◌, ◌<◌, length, get_or, take};
 ghost use Rattle.rules.specs.Values.{copies};
 ghost use Rattle.entry.specs.Stored.{key_width, slip_key_width};

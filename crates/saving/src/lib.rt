@@ -1,4 +1,6 @@
 // The public calls of saving and loading.
+#![tactic(auto)]
+
 ghost use Rattle.std.specs.Prelude.{◌≡◌, ◌+◌, ◌*◌, ◌≤◌, ◌<◌, length};
 ghost use Rattle.book.specs.Lent.{lent};
 ghost use Rattle.entry.specs.Stored.{line_width, slip_width};

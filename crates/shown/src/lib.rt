@@ -1,4 +1,6 @@
 // The typed values of a record, printed.
+#![tactic(auto)]
+
 use libc::STDOUT_FILENO;
 use reader::{read_delivery, read_order, read_report};
 use record::layout::{Kind, Kinded, kind_of};

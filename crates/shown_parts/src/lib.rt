@@ -1,4 +1,6 @@
 // The parts of a bundle, printed with their values, and the record written back from them.
+#![tactic(auto)]
+
 use cells::{part, same};
 use lent_parts::lent::lent_part;
 use packing::write_parts;

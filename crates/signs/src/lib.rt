@@ -1,4 +1,6 @@
 // Classes of bytes, and fields made of one class.
+#![tactic(auto)]
+
 ghost use Rattle.std.specs.Prelude.{◌≡◌};
 ghost use Rattle.cells.specs.Bytes.{within, all, run};
 ghost use Rattle.signs.specs.Class.{plain, unassigned, allowed, belongs, all_of, of_class, padded, named};
@@ -38,7 +40,7 @@ const FIRST_LATIN: u8 = 160;
 
 const LAST_LATIN: u8 = 255;
 
-#[derive(Drop)]
+#[derive(Clone, Copy)]
 pub enum Class {
     Any,
     Allowed,

@@ -1,4 +1,6 @@
 // Lines and slips in lent bytes. A line is its key, the article that was ordered, Q, its last report and A; a slip is its key, the index of its line and its quantity.
+#![tactic(auto)]
+
 ghost use Rattle.std.specs.Prelude.{◌≡◌, ◌++◌, ◌+◌, ◌*◌, ◌≤◌, ◌<◌, length};
 ghost use Rattle.entry.specs.Stored.{line_width, ordered_at, slip_width, slip_key_width, line_at, date_at, article_is, school_is, open_at, put_arrived, put_report, add_line, line_sound, slip_is, slip_line_at, slip_copies_at, add_slip};
 ghost use Rattle.rules.specs.Day.{day_width};

@@ -6,7 +6,6 @@ use lib.ListN.{length, length-append}
 use mir.Val.{Val}
 use denote.Laws.{Is}
 use denote.Struct.Declared.{row}
-use borrow.Author.Rules.{length_unmapped}
 use Rattle.cells.specs.Bytes.{joined}
 use Rattle.cells.specs.Little.{le_bytes}
 use Rattle.parts.specs.Part.{price_width, price_bytes}
@@ -30,25 +29,21 @@ pub record PartWide (p : Part) : Type 0 where
   pub list : PriceWide p.list
   pub article : ArticleWide p.article
 
--- an array's list has the array's length
-wide : (l : List ℕ) {n : ℕ} → length (map (λ (v : ℕ). v) l) ≡ n → length l ≡ n
-wide l {n} e = length_unmapped ℕ l n e
-
 -- what owning a value tells of its parts, which stand in the order of its fields
 pub price_wide : (p : PartPrice) (vs : List Val) → Is (row price.the_type) p vs → PriceWide p
 price_wide p vs g =
     let qualifier = g.1.1.1.1 in
     record {
-      qualifier = wide p.qualifier qualifier.0.1.0.1;
-      currency = wide p.currency qualifier.1.0.1.0.1;
+      qualifier = qualifier.0.1.0.1;
+      currency = qualifier.1.0.1.0.1;
     }
 
 pub article_wide : (a : PartArticle) (vs : List Val) → Is (row article.the_type) a vs → ArticleWide a
 article_wide a vs g =
     let bytes = g.1.1.1 in
     record {
-      bytes = wide a.bytes bytes.0.1.0.1;
-      qualifier = wide a.qualifier bytes.1.0.1.0.1;
+      bytes = bytes.0.1.0.1;
+      qualifier = bytes.1.0.1.0.1;
     }
 
 pub part_wide : (p : Part) (vs : List Val) → Is (row part.the_type) p vs → PartWide p

@@ -1,4 +1,6 @@
 // Reading the parts of a bundle: the public call, over a record and a lent room.
+#![tactic(auto)]
+
 pub mod entry;
 pub mod fields;
 

@@ -1,4 +1,6 @@
 // The public calls of writing: a record from its fixed part's bytes, a table and lent contents, judged first and then written whole; and a typed record, whose fixed part's bytes are made first.
+#![tactic(auto)]
+
 pub mod output;
 
 ghost use Rattle.std.specs.Prelude.{◌≡◌, ◌*◌, ◌≤◌, length};

@@ -4,7 +4,7 @@ ghost use Rattle.writing.specs.Write.{refusal_number, refusal_place, written_of}
 
 use record::layout::MOST_FIELDS;
 
-#[derive(Drop)]
+#[derive(Clone, Copy)]
 pub enum Refusal {
     // The index of the first fixed field that breaks its rule or holds a byte not allowed.
     FixedField(usize),
@@ -19,7 +19,7 @@ pub enum Refusal {
 }
 
 // A refusal, or the length of the record.
-#[derive(Drop)]
+#[derive(Clone, Copy)]
 pub enum Verdict {
     Refused(Refusal),
     Fits(usize),
@@ -27,7 +27,7 @@ pub enum Verdict {
 
 // The answer number and place of document 01, and the number of bytes written.
 #[repr(C)]
-#[derive(Drop)]
+#[derive(Clone, Copy)]
 pub struct Written {
     pub answer: u64,
     pub place: usize,

@@ -15,7 +15,7 @@ use record::layout::{Kind, MOST_BYTES};
 use signs::{Class, STAR, all_of, belongs_to};
 
 // An entry of a table: the ID, and where in the lent contents its content stands.
-#[derive(Drop)]
+#[derive(Clone, Copy)]
 pub struct Entry {
     pub id: usize,
     pub place: usize,
