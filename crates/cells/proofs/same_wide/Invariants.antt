@@ -1,0 +1,11 @@
+-- `cells::same_wide` meets its contract. The invariant: the fronts that were compared are the same.
+use mathlib.Core.Path.{◌≡◌}
+use Prim.Native.Nat.{◌-◌, ◌<◌}
+use lib.ListN.{take}
+use Rattle.cells.proofs.same_wide.Given as goal
+
+abbrev pub invariant-loop-i : goal.invariant-loop-i
+invariant-loop-i l = (l.i < l.n) × (take l.i l.a ≡ take l.i l.b)
+
+abbrev pub decreases-loop-i : goal.decreases-loop-i
+decreases-loop-i l = l.n - l.i
