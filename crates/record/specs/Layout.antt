@@ -1,5 +1,5 @@
 -- The kinds of records and the layout of each, as data (RULES 2.1, 2.2).
-use Rattle.std.specs.Prelude.{ℕ, suc, ◌+◌, List, [], ◌∷◌, ◌++◌, length, take, drop}
+use Rattle.std.specs.Prelude.{ℕ, suc, ◌+◌, List, [], ◌∷◌, ◌++◌, take, drop}
 use Rattle.std.proofs.Math.Seq.{slice}
 use Rattle.cells.specs.Bytes.{pick, bytes, same}
 use Rattle.signs.specs.Class.{of_class}
