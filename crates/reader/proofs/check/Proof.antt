@@ -9,7 +9,7 @@ use Rattle.record.specs.Read.{judged, entry_width, Outcome, outcome}
 use Rattle.record.specs.declared.answer.Checked.{Checked}
 use Rattle.record.specs.declared.answer.Verdict.TheVariants.{Fits}
 use Rattle.reader.proofs.Fitting.{fits_start, fits_count}
-use Rattle.reader.proofs.Stages.{small_table, check-refused, check-fits}
+use Rattle.reader.proofs.Stages.{small_table, check_refused, check_fits}
 use borrow.Author.Rules.{rules}
 use Rattle.reader.proofs.check.Statement.{statement}
 use Rattle.reader.proofs.check.Tie as tie
@@ -61,7 +61,7 @@ returns-2 c =
     let j = r.before.before in
     let a = j.before.before.before.before.args in
     ap (λ (x : Checked). outcome x a.table.now) c.checked-of2.ensures
-    ∙ sym (check-refused a.s.now a.table.now j.before.if1.false _ (sym j.judge-record.ensures ∙ r.r.given.1))
+    ∙ sym (check_refused a.s.now a.table.now j.before.if1.false _ (sym j.judge-record.ensures ∙ r.r.given.1))
 
 same_length : tie.Need-same-length
 same_length c = search rules
@@ -76,7 +76,7 @@ returns-3 c =
     let s = a.s.now in
     let count = n.n.given.0.0 in
     let filled = f.fill.ensures ∙ ap (λ (m : ℕ). entries_of count m (drop m s) ++ drop (count * entry_width) a.table.now) o.optional-start.ensures in
-    (λ i. outcome (c.checked-of3.ensures i) (filled i)) ∙ sym (check-fits s a.table.now j.before.if1.false count (fits n))
+    (λ i. outcome (c.checked-of3.ensures i) (filled i)) ∙ sym (check_fits s a.table.now j.before.if1.false count (fits n))
 
 pub check-spec : {M : Type 1} → statement M
 check-spec =

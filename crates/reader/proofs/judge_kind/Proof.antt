@@ -10,7 +10,7 @@ use Rattle.record.specs.declared.answer.Refusal.TheVariants.{Byte, FixedField}
 use Rattle.record.specs.declared.answer.Verdict.{Verdict}
 use Rattle.record.specs.declared.answer.Verdict.TheVariants.{Refused}
 use Rattle.record.proofs.Layouts.{total_most}
-use Rattle.reader.proofs.Stages.{kind_short, kind-byte, kind-fixed, kind-rest}
+use Rattle.reader.proofs.Stages.{kind_short, kind_byte_law, kind_fixed, kind_rest}
 use borrow.Author.Rules.{rules}
 use Rattle.reader.proofs.judge_kind.Statement.{statement}
 use Rattle.reader.proofs.judge_kind.Tie as tie
@@ -39,7 +39,7 @@ returns-2 : tie.Need-returns-2
 returns-2 c =
     let r = c.before in
     ap (λ (n : ℕ). Refused (Byte n)) r.allowed-run.ensures
-    ∙ sym (kind-byte _ _ (wide r.before) (λ e. c.if2.true (r.allowed-run.ensures ∙ e)))
+    ∙ sym (kind_byte_law _ _ (wide r.before) (λ e. c.if2.true (r.allowed-run.ensures ∙ e)))
 
 first-broken-requires : tie.Need-first-broken-requires
 first-broken-requires c κs = search rules
@@ -57,7 +57,7 @@ returns-3 c =
     let r = b.before.before in
     let place = c.start_of_lem.ensures ∙ ap (start_of (layout r.before.before.before.before.args.k)) b.first-broken.ensures in
     ap (λ (n : ℕ). Refused (FixedField n)) place
-    ∙ sym (kind-fixed _ _ (wide r.before) (sym r.allowed-run.ensures ∙ b.before.if2.false)
+    ∙ sym (kind_fixed _ _ (wide r.before) (sym r.allowed-run.ensures ∙ b.before.if2.false)
     (λ e. c.before.if3.true (b.first-broken.ensures ∙ e ∙ sym d.field-count.ensures)))
 
 judge-optional-requires : tie.Need-judge-optional-requires
@@ -72,7 +72,7 @@ returns-4 c =
     let k = r.before.before.before.before.args.k in
     c.judge-optional.ensures
     ∙ ap (λ (n : ℕ). optional_judged k n (drop n s)) r.before.before.fixed-width.ensures
-    ∙ sym (kind-rest _ _ (wide r.before) (sym r.allowed-run.ensures ∙ b.before.if2.false)
+    ∙ sym (kind_rest _ _ (wide r.before) (sym r.allowed-run.ensures ∙ b.before.if2.false)
     (sym b.first-broken.ensures ∙ c.before.if3.false ∙ d.field-count.ensures))
 
 pub judge-kind-spec : {M : Type 1} → statement M

@@ -3,7 +3,7 @@ use mathlib.Core.Path.{◌≡◌, ◌∙◌, sym}
 use Prim.Native.Nat.{◌≤◌}
 use native.Mathlib.Omega.{arith}
 use Rattle.walks.proofs.Walked.{walk_count}
-use Rattle.reader.proofs.Stages.{walk_refused, none-fits, judge-refused, judge-fits}
+use Rattle.reader.proofs.Stages.{walk_refused, none_fits, judge_refused, judge_fits}
 use borrow.Author.Rules.{rules}
 use Rattle.reader.proofs.judge_optional.Statement.{statement}
 use Rattle.reader.proofs.judge_optional.Tie as tie
@@ -20,7 +20,7 @@ enum-known-n c = search rules
 returns : tie.Need-returns
 returns c =
     let n = c.before.before in
-    sym (none-fits _ _ _ _ (sym n.before.before.walk.ensures ∙ n.n.given.1) c.if1.true)
+    sym (none_fits _ _ _ _ (sym n.before.before.walk.ensures ∙ n.n.given.1) c.if1.true)
 
 judge-requires : tie.Need-judge-requires
 judge-requires c κs =
@@ -44,13 +44,13 @@ returns-3 c =
     let q = c.before in
     let j = q.before.before in
     let n = j.before.before.before in
-    sym (judge-refused _ _ _ _ (sym n.before.before.walk.ensures ∙ n.n.given.1) _ (sym j.judge.ensures ∙ q.r2.given.1))
+    sym (judge_refused _ _ _ _ (sym n.before.before.walk.ensures ∙ n.n.given.1) _ (sym j.judge.ensures ∙ q.r2.given.1))
 
 returns-4 : tie.Need-returns-4
 returns-4 c =
     let j = c.before.before in
     let n = j.before.before.before in
-    sym (judge-fits _ _ _ _ (sym n.before.before.walk.ensures ∙ n.n.given.1) _ (sym j.judge.ensures ∙ c.enum_told.given.1))
+    sym (judge_fits _ _ _ _ (sym n.before.before.walk.ensures ∙ n.n.given.1) _ (sym j.judge.ensures ∙ c.enum_told.given.1))
 
 pub judge-optional-spec : {M : Type 1} → statement M
 judge-optional-spec =

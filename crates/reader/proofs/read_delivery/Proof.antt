@@ -2,7 +2,7 @@
 use mathlib.Core.Path.{◌≡◌, ◌∙◌, sym}
 use Rattle.record.specs.Read.{read_delivery}
 use Rattle.reader.proofs.Fitting.{delivery_wide}
-use Rattle.reader.proofs.Readings.{no-delivery-read, delivery_read}
+use Rattle.reader.proofs.Readings.{no_delivery_read, delivery_read}
 use borrow.Author.Rules.{rules}
 use Rattle.reader.proofs.read_delivery.Statement.{statement}
 use Rattle.reader.proofs.read_delivery.Tie as tie
@@ -35,7 +35,7 @@ unfolding read_delivery
 returns c =
     let q = c.before in
     let v = q.before.before in
-    no-delivery-read _ _ _ v.before.judge-as.ensures _ v.checked-of.ensures _ q.enum_told.given.1 _ c.no-delivery.ensures
+    no_delivery_read _ _ _ v.before.judge-as.ensures _ v.checked-of.ensures _ q.enum_told.given.1 _ c.no-delivery.ensures
 
 returns-2 : tie.Need-returns-2
 unfolding read_delivery

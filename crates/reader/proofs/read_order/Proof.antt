@@ -2,7 +2,7 @@
 use mathlib.Core.Path.{◌≡◌, ◌∙◌, sym}
 use Rattle.record.specs.Read.{read_order}
 use Rattle.reader.proofs.Fitting.{order_wide}
-use Rattle.reader.proofs.Readings.{no-order-read, order_read}
+use Rattle.reader.proofs.Readings.{no_order_read, order_read}
 use borrow.Author.Rules.{rules}
 use Rattle.reader.proofs.read_order.Statement.{statement}
 use Rattle.reader.proofs.read_order.Tie as tie
@@ -35,7 +35,7 @@ unfolding read_order
 returns c =
     let q = c.before in
     let v = q.before.before in
-    no-order-read _ _ _ v.before.judge-as.ensures _ v.checked-of.ensures _ q.enum_told.given.1 _ c.no-order.ensures
+    no_order_read _ _ _ v.before.judge-as.ensures _ v.checked-of.ensures _ q.enum_told.given.1 _ c.no-order.ensures
 
 returns-2 : tie.Need-returns-2
 unfolding read_order

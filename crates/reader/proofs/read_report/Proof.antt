@@ -2,7 +2,7 @@
 use mathlib.Core.Path.{◌≡◌, ◌∙◌, sym}
 use Rattle.record.specs.Read.{read_report}
 use Rattle.reader.proofs.Fitting.{report_wide}
-use Rattle.reader.proofs.Readings.{no-report-read, report_read}
+use Rattle.reader.proofs.Readings.{no_report_read, report_read}
 use borrow.Author.Rules.{rules}
 use Rattle.reader.proofs.read_report.Statement.{statement}
 use Rattle.reader.proofs.read_report.Tie as tie
@@ -35,7 +35,7 @@ unfolding read_report
 returns c =
     let q = c.before in
     let v = q.before.before in
-    no-report-read _ _ _ v.before.judge-as.ensures _ v.checked-of.ensures _ q.enum_told.given.1 _ c.no-report.ensures
+    no_report_read _ _ _ v.before.judge-as.ensures _ v.checked-of.ensures _ q.enum_told.given.1 _ c.no-report.ensures
 
 returns-2 : tie.Need-returns-2
 unfolding read_report
