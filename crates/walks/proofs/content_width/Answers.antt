@@ -1,9 +1,7 @@
 -- `walks::content_width` meets its contract. The invariant: the content ends where it ends from `end` on.
-use mathlib.Core.Path.{◌≡◌, ◌∙◌}
-use Prim.Native.Nat.{◌-◌, ◌≤◌}
+use mathlib.Core.Path.{◌∙◌}
 use native.Mathlib.Omega.{arith}
-use lib.ListN.{length}
-use Rattle.walks.proofs.Contents.{end_of, end_on, end_star, end_none, width_is}
+use Rattle.walks.proofs.Contents.{end_on, end_star, end_none, width_is}
 use borrow.Author.Rules.{rules}
 use Rattle.walks.proofs.content_width.Goals as goal
 

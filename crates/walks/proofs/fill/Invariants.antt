@@ -1,14 +1,9 @@
 -- `walks::fill` meets its contract. The invariant: what is left to store gives the same table as all of it.
-use mathlib.Core.Path.{◌≡◌, refl, ◌∙◌, sym}
+use mathlib.Core.Path.{◌≡◌}
 use Prim.Native.Nat.{◌+◌, ◌-◌, ◌*◌, ◌≤◌}
-use native.Mathlib.Nat.{sub-zero}
-use native.Mathlib.Omega.{arith}
 use lib.ListN.{length, drop}
 use lib.Seq.{sets}
 use Rattle.record.specs.Fields.{entries_of}
-use Rattle.walks.proofs.Contents.{width_most}
-use Rattle.walks.proofs.Tables.{entries_stored, entries_next, entries_end}
-use borrow.Author.Rules.{rules}
 use Rattle.walks.proofs.fill.Given as goal
 
 abbrev pub invariant-loop-i : goal.invariant-loop-i

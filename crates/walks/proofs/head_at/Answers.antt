@@ -9,7 +9,6 @@ use Rattle.signs.specs.declared.Class.TheVariants.{Digit}
 use Rattle.rules.proofs.Parts.{part_most}
 use Rattle.record.specs.declared.fields.Head.TheVariants.{Id}
 use Rattle.walks.proofs.Heads.{head_short, head_other, head_letters, head_id}
-use borrow.Author.Rules.{rules}
 use Rattle.walks.proofs.head_at.Goals as goal
 
 pub returns-then-s-at : goal.returns-then-s-at

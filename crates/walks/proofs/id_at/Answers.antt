@@ -1,7 +1,6 @@
 -- `walks::id_at` meets its contract, by what stands at the place.
 use mathlib.Core.Path.{◌∙◌, sym}
 use Rattle.walks.proofs.Heads.{id_of_law, no_id}
-use borrow.Author.Rules.{rules}
 use Rattle.walks.proofs.id_at.Goals as goal
 
 pub returns-in-Id : goal.returns-in-Id

@@ -2,18 +2,15 @@
 -- and the content ends, and holds a barred byte, as it does from `end` on.
 use mathlib.Core.Path.{◌≡◌, ◌∙◌, sym}
 use mathlib.Core.Bool.{false}
-use mathlib.Core.Logic.{⊎_elim}
-use Prim.Native.Nat.{◌+◌, ◌-◌, ◌*◌, ◌≤◌}
+use Prim.Native.Nat.{◌+◌}
 use native.Mathlib.Nat.{sub-zero}
 use native.Mathlib.Omega.{arith}
-use lib.ListN.{length, drop}
 use Rattle.cells.proofs.Bools.{is_not, is_so}
-use Rattle.record.specs.Contents.{no_member}
-use Rattle.record.specs.Fields.{id_of, judge}
 use Rattle.walks.proofs.Contents.{end_of, end_on, end_star, end_none, end_range, barred_from, barred_on, barred_found, barred_none}
 use Rattle.walks.proofs.Judged.{judge_end, judge_barred, judge_content, judge_group, judge_next}
 use borrow.Author.Rules.{rules}
 use Rattle.walks.proofs.judge.Goals as goal
+use Rattle.walks.proofs.judge.Goals.{else-content-test, then-content-test+then-s-end-eq-STAR}
 
 pub fields-init : goal.fields-init
 fields-init c = (search rules, search rules, c.id_at-id.ensures, rw sub-zero)
@@ -28,19 +25,14 @@ content-preserved c =
 
 pub fields-preserved : goal.fields-preserved
 fields-preserved c =
-    let scanned : let a = c in
-    let f = a in
-    let s = f.args.s.now in
-    (end_of s (f.fields.at + 5) ≡ c.content.end) × (barred_from a.is_guarded-guard.result s (f.fields.at + 5) ≡ false) = let inv = c.content.invariant in
-    let e = ⊎_elim (λ w. end_none _ _ w.left) (λ w. end_star _ _ w.0.taken w.2.taken) c.content-test.branch in
-    (inv.1 ∙ e, inv.2 ∙ barred_none _ _ _ e) in
-    let a = c in
-    let f = a in
-    let z = scanned in (
+    let e : end_of c.args.s.now c.content.end ≡ c.content.end =
+    elim c.content-test.branch [ else-content-test w ↦ end_none _ _ w.content-test.false | then-content-test+then-s-end-eq-STAR w ↦ end_star _ _ w.content-test.true w.if-s-end-eq-STAR.true ] in
+    let ended : end_of c.args.s.now (c.fields.at + 5) ≡ c.content.end = c.content.invariant.1 ∙ e in
+    let unbarred : barred_from c.is_guarded-guard.result c.args.s.now (c.fields.at + 5) ≡ false = c.content.invariant.2 ∙ barred_none _ _ _ e in (
       search rules,
-      omega (arith, end_range f.args.s.now (f.fields.at + 5), z.0),
+      omega (arith, end_range c.args.s.now (c.fields.at + 5), ended),
       c.id_at-after.ensures,
-      f.fields.invariant.3 ∙ judge_next _ _ _ (search rules) _ _ _ _ f.fields.invariant.2 _ a.is_guarded-guard.ensures _ z.0 z.1 _ c.part.ensures
+      c.fields.invariant.3 ∙ judge_next _ _ _ (search rules) _ _ _ _ c.fields.invariant.2 _ c.is_guarded-guard.ensures _ ended unbarred _ c.part.ensures
           (is_so c.rule_kept.ensures c.if-not-rule_kept.false) _ c.id_at-after.ensures (is_so c.group_kept.ensures c.if-not-group_kept.false),
     )
 
@@ -56,28 +48,18 @@ returns-then-is_barred c =
 
 pub returns-then-not-rule_kept : goal.returns-then-not-rule_kept
 returns-then-not-rule_kept c =
-    let scanned : let a = c in
-    let f = a in
-    let s = f.args.s.now in
-    (end_of s (f.fields.at + 5) ≡ c.content.end) × (barred_from a.is_guarded-guard.result s (f.fields.at + 5) ≡ false) = let inv = c.content.invariant in
-    let e = ⊎_elim (λ w. end_none _ _ w.left) (λ w. end_star _ _ w.0.taken w.2.taken) c.content-test.branch in
-    (inv.1 ∙ e, inv.2 ∙ barred_none _ _ _ e) in
-    let a = c in
-    let f = a in
-    let z = scanned in
-    sym (f.fields.invariant.3 ∙ judge_content _ _ _ (search rules) _ _ _ _ f.fields.invariant.2 _ a.is_guarded-guard.ensures _ z.0 z.1 _ c.part.ensures
+    let e : end_of c.args.s.now c.content.end ≡ c.content.end =
+    elim c.content-test.branch [ else-content-test w ↦ end_none _ _ w.content-test.false | then-content-test+then-s-end-eq-STAR w ↦ end_star _ _ w.content-test.true w.if-s-end-eq-STAR.true ] in
+    let ended : end_of c.args.s.now (c.fields.at + 5) ≡ c.content.end = c.content.invariant.1 ∙ e in
+    let unbarred : barred_from c.is_guarded-guard.result c.args.s.now (c.fields.at + 5) ≡ false = c.content.invariant.2 ∙ barred_none _ _ _ e in
+    sym (c.fields.invariant.3 ∙ judge_content _ _ _ (search rules) _ _ _ _ c.fields.invariant.2 _ c.is_guarded-guard.ensures _ ended unbarred _ c.part.ensures
     (is_not c.rule_kept.ensures c.if-not-rule_kept.true))
 
 pub returns-then-not-group_kept : goal.returns-then-not-group_kept
 returns-then-not-group_kept c =
-    let scanned : let a = c in
-    let f = a in
-    let s = f.args.s.now in
-    (end_of s (f.fields.at + 5) ≡ c.content.end) × (barred_from a.is_guarded-guard.result s (f.fields.at + 5) ≡ false) = let inv = c.content.invariant in
-    let e = ⊎_elim (λ w. end_none _ _ w.left) (λ w. end_star _ _ w.0.taken w.2.taken) c.content-test.branch in
-    (inv.1 ∙ e, inv.2 ∙ barred_none _ _ _ e) in
-    let a = c in
-    let f = a in
-    let z = scanned in
-    sym (f.fields.invariant.3 ∙ judge_group _ _ _ (search rules) _ _ _ _ f.fields.invariant.2 _ a.is_guarded-guard.ensures _ z.0 z.1 _ c.part.ensures
+    let e : end_of c.args.s.now c.content.end ≡ c.content.end =
+    elim c.content-test.branch [ else-content-test w ↦ end_none _ _ w.content-test.false | then-content-test+then-s-end-eq-STAR w ↦ end_star _ _ w.content-test.true w.if-s-end-eq-STAR.true ] in
+    let ended : end_of c.args.s.now (c.fields.at + 5) ≡ c.content.end = c.content.invariant.1 ∙ e in
+    let unbarred : barred_from c.is_guarded-guard.result c.args.s.now (c.fields.at + 5) ≡ false = c.content.invariant.2 ∙ barred_none _ _ _ e in
+    sym (c.fields.invariant.3 ∙ judge_group _ _ _ (search rules) _ _ _ _ c.fields.invariant.2 _ c.is_guarded-guard.ensures _ ended unbarred _ c.part.ensures
     (is_so c.rule_kept.ensures c.if-not-rule_kept.false) _ c.id_at-after.ensures (is_not c.group_kept.ensures c.if-not-group_kept.true))

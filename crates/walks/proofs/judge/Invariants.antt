@@ -1,18 +1,11 @@
 -- `walks::judge` meets its contract. The invariants: `id` is the ID at `at`, the fields from `at` on give what all of them give,
 -- and the content ends, and holds a barred byte, as it does from `end` on.
-use mathlib.Core.Path.{◌≡◌, ◌∙◌, sym}
-use mathlib.Core.Bool.{false}
-use mathlib.Core.Logic.{⊎_elim}
+use mathlib.Core.Path.{◌≡◌}
 use Prim.Native.Nat.{◌+◌, ◌-◌, ◌*◌, ◌≤◌}
-use native.Mathlib.Nat.{sub-zero}
-use native.Mathlib.Omega.{arith}
 use lib.ListN.{length, drop}
-use Rattle.cells.proofs.Bools.{is_not, is_so}
 use Rattle.record.specs.Contents.{no_member}
 use Rattle.record.specs.Fields.{id_of, judge}
-use Rattle.walks.proofs.Contents.{end_of, end_on, end_star, end_none, end_range, barred_from, barred_on, barred_found, barred_none}
-use Rattle.walks.proofs.Judged.{judge_end, judge_barred, judge_content, judge_group, judge_next}
-use borrow.Author.Rules.{rules}
+use Rattle.walks.proofs.Contents.{end_of, barred_from}
 use Rattle.walks.proofs.judge.Given as goal
 
 abbrev pub invariant-content : goal.invariant-content

@@ -2,7 +2,6 @@
 use native.Mathlib.Numerals.{add-one, add-two}
 use native.Mathlib.Omega.{arith}
 use lib.ListN.{length-set}
-use borrow.Author.Rules.{rules}
 use Rattle.walks.proofs.put_entry.Goals as goal
 
 pub bounds-table-at-2 : goal.bounds-table-at-2

@@ -1,7 +1,7 @@
 -- `walks::walk` meets its contract. The invariants: the fields from `at` on give what all of them give, and the content ends where it ends from `end` on.
 use mathlib.Core.Path.{◌≡◌, refl, ◌∙◌, sym}
-use Prim.Native.Nat.{◌+◌, ◌-◌, ◌≤◌}
-use lib.ListN.{length, drop}
+use Prim.Native.Nat.{◌+◌, ◌-◌}
+use lib.ListN.{drop}
 use Rattle.record.specs.Layout.{most_fields}
 use Rattle.record.specs.Fields.{head_of, walk}
 use Rattle.record.specs.declared.fields.Head.TheVariants.{Id}
