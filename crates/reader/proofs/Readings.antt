@@ -1,5 +1,5 @@
 -- The typed records by the verdict: the values where a record fits, zeros where it is refused.
-use mathlib.Core.Path.{◌≡◌, ◌∙◌, ap, sym, refl}
+use mathlib.Core.Path.{◌≡◌}
 use mathlib.Core.List.{List}
 use Prim.Native.Nat.{ℕ}
 use Rattle.record.specs.Answers.{checked_of}
@@ -9,9 +9,6 @@ use Rattle.record.specs.declared.answer.Refusal.{Refusal}
 use Rattle.record.specs.declared.answer.Verdict.{Verdict}
 use Rattle.record.specs.declared.answer.Verdict.TheVariants.{Refused, Fits}
 use Rattle.record.specs.declared.answer.Checked.{Checked}
-use Rattle.record.specs.declared.answer.ReadOrder.{ReadOrder}
-use Rattle.record.specs.declared.answer.ReadDelivery.{ReadDelivery}
-use Rattle.record.specs.declared.answer.ReadReport.{ReadReport}
 use Rattle.record.specs.declared.values.Order.{Order}
 use Rattle.record.specs.declared.values.Delivery.{Delivery}
 use Rattle.record.specs.declared.values.Report.{Report}

@@ -1,9 +1,8 @@
 -- The stages of reading, one after the other, by the tests that the code makes.
-use mathlib.Core.Path.{◌≡◌, ◌∙◌, ap, sym, refl}
-use mathlib.Core.Bool.{Bool, true, false}
-use mathlib.Core.List.{List, [], ◌∷◌, ◌++◌}
+use mathlib.Core.Path.{◌≡◌}
+use mathlib.Core.Bool.{true, false}
+use mathlib.Core.List.{List, ◌++◌}
 use Prim.Native.Nat.{ℕ, ◌+◌, ◌*◌, ◌≤◌, ◌<◌}
-use native.Mathlib.Omega.{arith}
 use borrow.Author.Tests.{eq-eqb, ne_eqb, lt-ltb, le-ltb}
 use lib.ListN.{length, drop}
 use lib.Seq.{slice}
@@ -17,10 +16,9 @@ use Rattle.record.specs.Fields.{head_width, walk, judge, entries_of}
 use Rattle.record.specs.Read.{bytes_judged, fixed_judged, after_walk, optional_judged, kind_judged, judged, entry_width, outcome, optional_start, table_after, check, judged_as}
 use Rattle.record.specs.declared.answer.Refusal.{Refusal}
 use Rattle.record.specs.declared.answer.Refusal.TheVariants.{TooLong, UnknownKind, TooShort, Byte, FixedField, SmallTable}
-use Rattle.record.specs.declared.answer.Verdict.{Verdict}
 use Rattle.record.specs.declared.answer.Verdict.TheVariants.{Refused, Fits}
 use Rattle.record.specs.declared.layout.Kind.{Kind}
-use Rattle.record.specs.declared.layout.Kinded.TheVariants.{Known, Unknown}
+use Rattle.record.specs.declared.layout.Kinded.TheVariants.{Known}
 
 -- 6 to 10, from what the two walks say
 module _ (k : Kind) (p : ℕ) (t : List ℕ) where
