@@ -12,11 +12,11 @@ use Rattle.cells.proofs.Bools.{split, and_left}
 use Rattle.record.specs.Fields.{Optional}
 use Rattle.record.specs.Read.{entry_width}
 use Rattle.writing.specs.Widths.{all_inside}
-use Rattle.writing.specs.Write.{entries, optional_in, optional_of}
+use Rattle.writing.specs.Write.{entries, optional_of}
 use Rattle.writing.specs.declared.entries.Entry.{Entry}
 use Rattle.writing.proofs.Halves.{entries_length, fields_length, fields_drop, inside_drop}
 use Rattle.parts.specs.Entries.{others_among}
-use Rattle.parts.specs.Loops.{part_id, loop_fields, most_parts, are_loops, others_in, loops_of, loop_count, whole_loops}
+use Rattle.parts.specs.Loops.{part_id, loop_fields, most_parts, are_loops, loops_of, loop_count, whole_loops}
 use Rattle.parts.specs.Read.{loops_judged}
 use Rattle.parts.specs.declared.answer.Refusal.TheVariants.{Broken, TooMany}
 use Rattle.parts.specs.declared.answer.Verdict.TheVariants.{Refused, Fits}

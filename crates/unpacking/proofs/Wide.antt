@@ -1,7 +1,6 @@
 -- How wide the values of a part are: as the arrays that hold them.
 use mathlib.Core.Path.{◌≡◌}
-use mathlib.Core.List.{List, map}
-use Prim.Native.Nat.{ℕ}
+use mathlib.Core.List.{List}
 use lib.ListN.{length, length-append}
 use mir.Val.{Val}
 use denote.Laws.{Is}
