@@ -1,22 +1,21 @@
 -- The contents of a loop, each by the rule of its ID: what it is that keeps it.
-use mathlib.Core.Path.{◌≡◌, ◌∙◌, ap, sym, refl}
-use mathlib.Core.Bool.{Bool, true, false, ◌&&◌, ◌||◌, false≢true}
-use mathlib.Core.List.{List, [], ◌∷◌, ◌++◌}
-use Prim.Native.Nat.{ℕ, zero, suc, ◌+◌, ◌^◌, ◌≤◌, ◌<◌}
+use mathlib.Core.Path.{◌≡◌, ap}
+use mathlib.Core.Bool.{true, false≢true}
+use mathlib.Core.List.{List, [], ◌∷◌}
+use Prim.Native.Nat.{ℕ, ◌^◌, ◌≤◌, ◌<◌}
 use native.Mathlib.Nat.{zero-add}
 use native.Mathlib.Omega.{arith}
-use borrow.Author.Tests.{leb-true, le-leb, lt-ltb}
+use borrow.Author.Tests.{leb-true}
 use lib.Dec.{leb}
-use lib.ListN.{length, take, get_or}
-use lib.Seq.{take_all}
-use Rattle.cells.specs.Bytes.{pick, bytes, within, all, same, among}
+use lib.ListN.{length}
+use Rattle.cells.specs.Bytes.{bytes, within, all, same, among}
 use Rattle.cells.proofs.Bools.{split, and_left, and_right}
 use Rattle.cells.proofs.Lists.{same_true}
 use Rattle.signs.specs.Class.{digit, belongs, all_of, of_class}
 use Rattle.rules.specs.Number.{number}
 use Rattle.rules.specs.Rule.{texts, keeps}
 use Rattle.signs.specs.declared.Class.{Class}
-use Rattle.signs.specs.declared.Class.TheVariants.{Any, Digit, Capital}
+use Rattle.signs.specs.declared.Class.TheVariants.{Digit}
 use Rattle.rules.specs.declared.rule.Texts.TheVariants.{PartTax, Medium}
 use Rattle.rules.specs.declared.rule.Rule.TheVariants.{Of, OneOf}
 use Rattle.rules.proofs.Digits.{width}

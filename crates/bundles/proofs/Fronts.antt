@@ -1,11 +1,11 @@
 -- A record is a bundle just where its fixed part is a bundle's.
-use mathlib.Core.Path.{◌≡◌, ◌∙◌, ap, ap₂, sym, refl}
-use mathlib.Core.Bool.{Bool, true, false, ◌&&◌}
+use mathlib.Core.Path.{◌≡◌, ap}
+use mathlib.Core.Bool.{Bool, true, false}
 use mathlib.Core.List.{List, ◌++◌}
 use Prim.Native.Nat.{ℕ, ◌+◌, ◌<◌}
 use native.Mathlib.Omega.{arith}
 use lib.Dec.{eqb}
-use lib.ListN.{length, get_or, get_or-append}
+use lib.ListN.{length, get_or-append}
 use lib.Seq.{slice, take-append-le}
 use Rattle.cells.specs.Bytes.{pick, bytes, same}
 use Rattle.cells.proofs.Bools.{split}
@@ -16,7 +16,6 @@ use Rattle.signs.specs.declared.Class.TheVariants.{Zero}
 use Rattle.record.specs.Layout.{kind_width, date_start, layout, total, fixed_width, kind_of}
 use Rattle.record.specs.declared.layout.Kind.{Kind}
 use Rattle.record.specs.declared.layout.Kind.TheVariants.{Goods, Closing}
-use Rattle.record.specs.declared.layout.Kinded.{Kinded}
 use Rattle.record.specs.declared.layout.Kinded.TheVariants.{Known}
 use Rattle.roundtrip.proofs.Fronts.{date_inside}
 use Rattle.parts.specs.Loops.{tax_place, bundle_mark, is_bundle}

@@ -2,11 +2,11 @@
 use mathlib.Core.Path.{◌≡◌, ◌∙◌, ap, ap₂, sym, refl}
 use mathlib.Core.Bool.{true}
 use mathlib.Core.List.{List, [], ◌∷◌, ◌++◌, append_assoc}
-use Prim.Native.Nat.{ℕ, zero, suc, ◌+◌, ◌-◌, ◌*◌, ◌^◌, ◌≤◌, ◌<◌}
+use Prim.Native.Nat.{ℕ, ◌+◌, ◌*◌, ◌^◌, ◌≤◌, ◌<◌}
 use native.Mathlib.Nat.{zero-add, add-zero, add_assoc}
 use native.Mathlib.Omega.{arith}
-use lib.ListN.{length, take, drop, get_or, replicate, length-append}
-use lib.Seq.{slice, take_all, take_at, drop_at, drop-drop, get_or-drop, take-append-le}
+use lib.ListN.{length, take, drop, get_or, length-append}
+use lib.Seq.{slice, take_at, drop_at, drop-drop, get_or-drop, take-append-le}
 use Rattle.cells.specs.Bytes.{joined}
 use Rattle.cells.specs.Little.{le_at, le_bytes}
 use Rattle.cells.proofs.Parts.{take_drop, slice_drop}
@@ -16,7 +16,6 @@ use Rattle.parts.specs.Part.{amount_width, article_width, qualifier_width, curre
 use Rattle.parts.specs.declared.part.Medium.{Medium}
 use Rattle.parts.specs.declared.part.Medium.TheVariants.{Physical, Digital}
 use Rattle.parts.specs.declared.part.PartPrice.{PartPrice}
-use Rattle.parts.specs.declared.part.PartArticle.{PartArticle}
 use Rattle.parts.specs.declared.part.Part.{Part}
 use Rattle.parts.proofs.Fits.{fitted_whole}
 use Rattle.bundles.proofs.PartBack.{PriceShaped, Shaped}

@@ -1,31 +1,31 @@
 -- A loop is written back from the part that it says.
-use mathlib.Core.Path.{◌≡◌, ◌∙◌, ap, sym, refl}
-use mathlib.Core.Bool.{Bool, true, ◌&&◌}
-use mathlib.Core.List.{List, [], ◌∷◌, ◌++◌, map}
-use Prim.Native.Nat.{ℕ, zero, suc, ◌+◌, ◌-◌, ◌^◌, ◌≤◌, ◌<◌}
+use mathlib.Core.Path.{◌≡◌, ◌∙◌, ap, refl}
+use mathlib.Core.Bool.{true, ◌&&◌}
+use mathlib.Core.List.{List, [], ◌∷◌, map}
+use Prim.Native.Nat.{ℕ, ◌-◌, ◌^◌}
 use native.Mathlib.Omega.{arith}
 use borrow.Author.Tests.{eqb-true, le-leb, lt-ltb}
 use lib.Dec.{eqb}
-use lib.ListN.{length, take, drop, get_or, replicate}
+use lib.ListN.{length, replicate}
 use lib.Seq.{take_all, take_at}
-use Rattle.cells.specs.Bytes.{pick, bytes, same}
+use Rattle.cells.specs.Bytes.{same}
 use Rattle.cells.proofs.Bools.{and_left, and_right}
 use Rattle.rules.specs.Number.{number}
 use Rattle.rules.specs.Rule.{keeps}
 use Rattle.signs.specs.declared.Class.TheVariants.{Any, Digit, Capital}
-use Rattle.rules.specs.declared.rule.Texts.TheVariants.{PartTax, Medium}
+use Rattle.rules.specs.declared.rule.Texts.TheVariants.{Medium}
 use Rattle.rules.specs.declared.rule.Rule.TheVariants.{Of, OneOf}
 use Rattle.record.specs.Contents.{contents, is_in, rule_in, content_rule}
 use Rattle.record.specs.Fields.{Optional}
-use Rattle.writing.specs.Digits.{digits_of, unwritable, number_bytes}
+use Rattle.writing.specs.Digits.{number_bytes}
 use Rattle.roundtrip.proofs.Sequences.{one_byte}
 use Rattle.roundtrip.proofs.NumbersBack.{digits_back}
 use Rattle.parts.specs.Loops.{Member, loop, loop_fields, is_member, is_loop}
-use Rattle.parts.specs.Part.{most_digits, article_width, fitted, no_optional, text_of, medium_of, price_from, article_from, part_of}
-use Rattle.parts.specs.Fields.{amount_text, article_text, medium_name, medium_text, part_texts, with_ids, part_fields}
+use Rattle.parts.specs.Part.{most_digits, article_width, fitted, text_of, medium_of, price_from, article_from, part_of}
+use Rattle.parts.specs.Fields.{amount_text, article_text, medium_text, part_texts, with_ids, part_fields}
 use Rattle.parts.proofs.Fits.{fitted_whole}
 use Rattle.bundles.proofs.Kept.{AllSound, rule_at}
-use Rattle.bundles.proofs.Contents.{of_least, of_most, of_length, of_digits, digits_small, tax_length, medium_either}
+use Rattle.bundles.proofs.Contents.{of_most, of_length, of_digits, digits_small, tax_length, medium_either}
 
 -- the contents of fields
 abbrev pub texts_of : List Optional → List (List ℕ)

@@ -1,39 +1,35 @@
 -- A part is read back from its fields.
-use mathlib.Core.Path.{◌≡◌, ◌∙◌, ap, sym, refl}
+use mathlib.Core.Path.{◌≡◌, ◌∙◌, ap, refl}
 use mathlib.Core.Bool.{Bool, true, false}
-use mathlib.Core.List.{List, [], ◌∷◌}
+use mathlib.Core.List.{List, []}
 use Prim.Native.Nat.{ℕ, ◌+◌, ◌-◌, ◌≤◌, ◌<◌}
 use native.Mathlib.Omega.{arith}
-use borrow.Author.Tests.{leb-true, le-leb}
+use borrow.Author.Tests.{leb-true}
 use lib.Dec.{leb}
-use lib.ListN.{length, take, drop, get_or, replicate, length-take}
+use lib.ListN.{length, take, get_or, replicate}
 use lib.Seq.{slice, take_all, take_at, length-slice, length-take-le}
-use Rattle.cells.specs.Bytes.{pick, bytes, all, same, among}
+use Rattle.cells.specs.Bytes.{same, among}
 use Rattle.cells.proofs.Bools.{split}
-use Rattle.signs.specs.Class.{belongs}
 use Rattle.rules.specs.Number.{number}
 use Rattle.rules.specs.Rule.{texts, keeps}
 use Rattle.rules.specs.Values.{price_of}
-use Rattle.signs.specs.declared.Class.TheVariants.{Any, Allowed, Digit, Capital}
+use Rattle.signs.specs.declared.Class.TheVariants.{Digit}
 use Rattle.rules.specs.declared.rule.Rule.TheVariants.{Of, OneOf}
 use Rattle.rules.specs.declared.rule.Texts.TheVariants.{Medium as medium}
-use Rattle.rules.specs.declared.amount.Price.{Price}
 use Rattle.record.specs.Contents.{contents, is_in, rule_in, content_rule}
-use Rattle.record.specs.Fields.{Optional}
 use Rattle.writing.specs.Digits.{unwritable, number_bytes}
 use Rattle.writing.proofs.Decimals.{number_length, unwritable_length}
 use Rattle.roundtrip.proofs.ValuesBack.{AllAllowed, not_allowed, number_back}
 use Rattle.parts.specs.Loops.{loop}
-use Rattle.parts.specs.Part.{most_digits, article_width, qualifier_width, currency_width, fitted, text_of, medium_of, price_from, article_from, part_of, part_width, net_at, list_at, length_at, article_at, article_qualifier_at, price_qualifier_at, currency_at, price_width, lent_price, lent_article, lent_part}
+use Rattle.parts.specs.Part.{most_digits, article_width, qualifier_width, currency_width, fitted, text_of, medium_of, price_from, article_from, part_of, part_width, net_at, list_at, length_at, article_at, lent_price, lent_article, lent_part}
 use Rattle.parts.specs.Fields.{amount_text, article_text, medium_text, part_texts, with_ids, part_fields}
 use Rattle.parts.specs.declared.part.Medium.{Medium}
 use Rattle.parts.specs.declared.part.Medium.TheVariants.{Physical, Digital}
 use Rattle.parts.specs.declared.part.PartPrice.{PartPrice}
-use Rattle.parts.specs.declared.part.PartArticle.{PartArticle}
 use Rattle.parts.specs.declared.part.Part.{Part}
 use Rattle.parts.proofs.Fits.{fitted_whole, fitted_length}
 use Rattle.bundles.proofs.Kept.{AllSound}
-use Rattle.bundles.proofs.Contents.{of_least, medium_either}
+use Rattle.bundles.proofs.Contents.{of_least}
 
 -- how wide a part's values are, and that zeros stand behind its article
 pub record PriceShaped (p : PartPrice) : Type 0 where

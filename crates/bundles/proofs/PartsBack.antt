@@ -1,6 +1,6 @@
 -- n loops and n parts, by induction on their number: the parts that loops say, stored and taken from the room again, have these loops as their fields; and the parts of a room are those that their fields say.
 use mathlib.Core.Path.{◌≡◌, ◌∙◌, ap, ap₂, sym, refl}
-use mathlib.Core.Bool.{Bool, true, ◌&&◌}
+use mathlib.Core.Bool.{true}
 use mathlib.Core.List.{List, [], ◌∷◌, ◌++◌, append_assoc}
 use Prim.Native.Nat.{ℕ, zero, suc, ◌+◌, ◌-◌, ◌*◌, ◌^◌, ◌≤◌, ◌<◌}
 use native.Mathlib.Nat.{pow-le-pow_right}
@@ -25,7 +25,7 @@ use Rattle.bundles.proofs.Kept.{AllSound, sound_take, sound_drop, rule_at}
 use Rattle.bundles.proofs.Contents.{of_most, of_digits, digits_small}
 use Rattle.bundles.proofs.LoopBack.{loop_back}
 use Rattle.bundles.proofs.PartBack.{PriceShaped, part_back, lent_shaped}
-use Rattle.bundles.proofs.LentBack.{Stored, AllStored, part_stored, medium_there, entry_length, part_from, parts_stored}
+use Rattle.bundles.proofs.LentBack.{Stored, AllStored, part_stored, medium_there, entry_length, part_from}
 
 -- the part that a loop says can be stored
 module _ (fs : List Optional) where

@@ -17,7 +17,7 @@ use Rattle.parts.specs.Loops.{is_bundle, most_parts}
 use Rattle.parts.specs.Part.{part_width}
 use Rattle.parts.specs.Fields.{lent_fields}
 use Rattle.parts.specs.Answers.{read_of}
-use Rattle.parts.specs.Read.{parts_judged, Outcome as Read, outcome as told, room_after, parts_read, bundle_read, read_parts}
+use Rattle.parts.specs.Read.{parts_judged, Outcome as Read, outcome as told, room_after, bundle_read, read_parts}
 use Rattle.parts.specs.Write.{table_with, contents_with, write_with, parts_refused, written_with, write_parts}
 use Rattle.parts.specs.declared.answer.Refusal.TheVariants.{SmallRoom}
 use Rattle.parts.specs.declared.answer.Verdict.{Verdict}

@@ -1,55 +1,45 @@
 -- Demand 2 for parts, read after write: what is written with parts reads back as them.
 use mathlib.Core.Path.{◌≡◌, ◌∙◌, ap, ap₂, sym, refl, subst}
-use mathlib.Core.Bool.{Bool, true, false, ◌&&◌, ◌||◌, false≢true}
-use mathlib.Core.List.{List, [], ◌∷◌, ◌++◌, append-nil}
-use Prim.Native.Nat.{ℕ, zero, suc, ◌+◌, ◌-◌, ◌*◌, ◌≤◌, ◌<◌, min}
+use mathlib.Core.Bool.{Bool, true, false, ◌||◌, false≢true}
+use mathlib.Core.List.{List, ◌++◌}
+use Prim.Native.Nat.{ℕ, ◌*◌, ◌≤◌}
 use native.Mathlib.Omega.{arith}
-use borrow.Author.Tests.{ltb-false, le-ltb, ne_eqb}
-use lib.Dec.{eqb, ltb}
-use lib.ListN.{length, take, drop, length-append, length-drop, take-append-drop}
-use lib.Seq.{take_at, drop_at, take-append_seam, length-take-le}
-use Rattle.cells.specs.Bytes.{pick, all}
-use Rattle.cells.proofs.Bools.{split, and_left, and_right}
+use borrow.Author.Tests.{ltb-false, le-ltb}
+use lib.Dec.{eqb}
+use lib.ListN.{length, drop}
+use lib.Seq.{take_at, drop_at, take-append_seam}
+use Rattle.cells.specs.Bytes.{all}
+use Rattle.cells.proofs.Bools.{split, and_right}
 use Rattle.cells.proofs.Lists.{all_append}
 use Rattle.signs.specs.Class.{belongs}
 use Rattle.signs.specs.declared.Class.TheVariants.{Allowed}
-use Rattle.record.specs.Layout.{fixed_width, kind_of}
 use Rattle.record.specs.Contents.{no_member}
 use Rattle.record.specs.Fields.{Optional}
-use Rattle.record.specs.Read.{judged, entry_width, optional_fields}
-use Rattle.record.specs.declared.answer.Verdict.TheVariants.{Fits as Holds}
-use Rattle.record.specs.declared.answer.Checked.{Checked}
+use Rattle.record.specs.Read.{entry_width, optional_fields}
 use Rattle.record.specs.declared.layout.Kind.{Kind}
-use Rattle.record.specs.declared.layout.Kinded.TheVariants.{Known}
-use Rattle.writing.specs.Write.{Outcome, outcome, entries, optional_of, optional_text, record_text}
-use Rattle.writing.specs.Widths.{all_inside}
-use Rattle.writing.proofs.Halves.{entries_length, fields_length, fields_take, inside_take}
-use Rattle.roundtrip.specs.Record.{Makes, CanWrite}
-use Rattle.roundtrip.specs.Demand2.{written, read_call, write_call}
+use Rattle.writing.specs.Write.{entries, optional_of, optional_text, record_text}
+use Rattle.writing.proofs.Halves.{entries_length, fields_length}
+use Rattle.roundtrip.specs.Demand2.{written}
 use Rattle.roundtrip.proofs.Texts.{contents_allowed, text_allowed}
 use Rattle.roundtrip.proofs.Whole.{Whole, made_whole}
-use Rattle.roundtrip.proofs.ReadExactly.{table_large, fits_said, fits_table, whole_fits, whole_fields, whole_tabled, fits_whole, fixed_of}
-use Rattle.roundtrip.proofs.WriteExactly.{write_exactly}
-use Rattle.roundtrip.proofs.WriteAfterRead.{write_after_read}
-use Rattle.parts.specs.Loops.{is_bundle, loop_fields, most_parts, are_loops, others_in, loops_of}
+use Rattle.roundtrip.proofs.ReadExactly.{whole_fits, whole_fields, whole_tabled}
+use Rattle.parts.specs.Loops.{is_bundle, others_in, loops_of}
 use Rattle.parts.specs.Part.{part_width, parts_of, room_of, lent_parts}
 use Rattle.parts.specs.Fields.{lent_fields}
-use Rattle.parts.specs.Answers.{read_of}
 use Rattle.parts.specs.Entries.{others_among}
-use Rattle.parts.specs.Read.{parts_judged, Outcome as Read, room_after, parts_read, read_parts}
+use Rattle.parts.specs.Read.{parts_judged, Outcome as Read, room_after, parts_read}
 use Rattle.parts.specs.Write.{entries_there, has_loop, is_misplaced}
 use Rattle.parts.specs.declared.answer.Verdict.TheVariants.{Fits}
-use Rattle.parts.specs.declared.part.Part.{Part}
 use Rattle.parts.proofs.Members.{others_named}
 use Rattle.parts.proofs.Lent.{lent_long}
-use Rattle.bundles.specs.Demand2.{parts_call, write_parts_call, LargeRoom, Bundled, PartsBack, CanWriteParts, PartsReadBack, PartsWrittenBack, PartsDemand2}
+use Rattle.bundles.specs.Demand2.{parts_call, write_parts_call, LargeRoom, Bundled, CanWriteParts, PartsReadBack}
 use Rattle.bundles.proofs.Kept.{AllSound, record_sound, sound_drop}
-use Rattle.bundles.proofs.LentBack.{AllStored, parts_stored, room_length}
-use Rattle.bundles.proofs.PartsBack.{all_stored, parts_length, loops_back, lent_back}
-use Rattle.bundles.proofs.Others.{others_most, others_front, others_append, loops_first, not_zero, Loops}
-use Rattle.bundles.proofs.ReadDone.{read_fits, Done, done, count_is, judged_bundle, judged_none, none_judged, bundle_judged, parts_read_exactly}
+use Rattle.bundles.proofs.LentBack.{parts_stored}
+use Rattle.bundles.proofs.PartsBack.{all_stored, parts_length, lent_back}
+use Rattle.bundles.proofs.Others.{others_most, others_append, loops_first, not_zero}
+use Rattle.bundles.proofs.ReadDone.{read_fits, none_judged, bundle_judged}
 use Rattle.bundles.proofs.Fronts.{bundle_front}
-use Rattle.bundles.proofs.WriteDone.{done_can, can_done, parts_write_exactly}
+use Rattle.bundles.proofs.WriteDone.{done_can, can_done}
 
 -- the fields of a record are sound
 pub whole_sound : (k : Kind) (fixed : List ℕ) (fs : List Optional) → Whole k fixed fs → AllSound fs

@@ -1,18 +1,17 @@
 -- Reading parts: where it answers 0, and what it then says.
 use mathlib.Core.Path.{◌≡◌, ◌∙◌, ap, sym, refl, subst}
-use mathlib.Core.Bool.{Bool, true, false, false≢true}
-use mathlib.Core.List.{List, [], ◌∷◌, ◌++◌}
-use Prim.Native.Nat.{ℕ, zero, suc, ◌+◌, ◌*◌, ◌≤◌, ◌<◌}
+use mathlib.Core.Bool.{true, false}
+use mathlib.Core.List.{List}
+use Prim.Native.Nat.{ℕ, ◌*◌}
 use native.Mathlib.Omega.{arith}
 use borrow.Author.Tests.{le-ltb, ltb-false}
 use lib.Dec.{ltb}
-use lib.ListN.{length, take, drop, take-append-drop, length-drop}
+use lib.ListN.{length, take, drop, take-append-drop}
 use lib.Seq.{drop_at, length-take-le}
-use Rattle.cells.specs.Bytes.{pick}
 use Rattle.cells.proofs.Bools.{split}
-use Rattle.record.specs.Answers.{refusal_number, checked_of}
+use Rattle.record.specs.Answers.{checked_of}
 use Rattle.record.specs.Fields.{Optional}
-use Rattle.record.specs.Read.{judged, optional_start, optional_fields}
+use Rattle.record.specs.Read.{judged, optional_fields}
 use Rattle.record.specs.declared.answer.Verdict.{Verdict as Judged}
 use Rattle.record.specs.declared.answer.Verdict.TheVariants.{Refused as NoRecord, Fits as Holds}
 use Rattle.writing.specs.Write.{entries, optional_of}
@@ -21,15 +20,14 @@ use Rattle.roundtrip.specs.Demand2.{read_call, Tabled}
 use Rattle.roundtrip.proofs.OptionalKept.{fields_count}
 use Rattle.roundtrip.proofs.ReadExactly.{verdict_fits, fits_said, fits_table, fits_record}
 use Rattle.roundtrip.proofs.Demand2.{tabled_fits}
-use Rattle.parts.specs.Loops.{is_bundle, loop_fields, most_parts, are_loops, others_in, loops_of}
+use Rattle.parts.specs.Loops.{is_bundle, most_parts, others_in, loops_of}
 use Rattle.parts.specs.Part.{part_width}
 use Rattle.parts.specs.Answers.{refusal_number as partsNumber, read_of}
-use Rattle.parts.specs.Read.{loops_judged, parts_judged, Outcome, outcome, room_after, parts_read, bundle_read, read_parts}
+use Rattle.parts.specs.Read.{parts_judged, Outcome, parts_read, bundle_read, read_parts}
 use Rattle.parts.specs.declared.answer.Refusal.{Refusal}
 use Rattle.parts.specs.declared.answer.Refusal.TheVariants.{SmallRoom, Broken, TooMany}
 use Rattle.parts.specs.declared.answer.Verdict.{Verdict}
 use Rattle.parts.specs.declared.answer.Verdict.TheVariants.{Refused, Fits}
-use Rattle.parts.specs.declared.answer.PartsRead.{PartsRead}
 use Rattle.bundles.specs.Demand2.{parts_call, LargeRoom, Bundled, Parted, PartsReadExactly}
 use Rattle.bundles.proofs.Others.{others_most, others_front, others_append, loops_first, loops_fit, Loops, fit_loops}
 

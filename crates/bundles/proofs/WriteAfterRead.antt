@@ -1,20 +1,18 @@
 -- Demand 2 for parts, write after read: a record whose parts were read, written with them and the fields before them, gives the same bytes.
 use mathlib.Core.Path.{◌≡◌, ◌∙◌, ap, ap₂, sym, refl, subst}
-use mathlib.Core.Bool.{Bool, true, false, ◌||◌}
-use mathlib.Core.List.{List, [], ◌∷◌, ◌++◌, append-nil}
-use Prim.Native.Nat.{ℕ, zero, suc, ◌+◌, ◌-◌, ◌*◌, ◌≤◌}
+use mathlib.Core.Bool.{true, false}
+use mathlib.Core.List.{List, [], ◌++◌}
+use Prim.Native.Nat.{ℕ, ◌+◌, ◌-◌, ◌*◌, ◌≤◌}
 use native.Mathlib.Omega.{arith}
 use borrow.Author.Tests.{ne_eqb}
-use lib.Dec.{eqb, ltb}
+use lib.Dec.{eqb}
 use lib.ListN.{length, take, drop, length-append, length-drop, take-append-drop, drop_of_length-le}
-use lib.Seq.{take_at, length-take-le}
-use Rattle.cells.specs.Bytes.{pick}
+use lib.Seq.{take_at}
 use Rattle.cells.proofs.Bools.{split}
 use Rattle.record.specs.Layout.{fixed_width, kind_of}
 use Rattle.record.specs.Answers.{checked_of}
 use Rattle.record.specs.Fields.{Optional}
-use Rattle.record.specs.Read.{judged, entry_width, optional_fields}
-use Rattle.record.specs.declared.answer.Verdict.TheVariants.{Fits as Holds}
+use Rattle.record.specs.Read.{entry_width, optional_fields}
 use Rattle.record.specs.declared.answer.Checked.{Checked}
 use Rattle.record.specs.declared.layout.Kind.{Kind}
 use Rattle.record.specs.declared.layout.Kinded.TheVariants.{Known}
@@ -28,17 +26,16 @@ use Rattle.roundtrip.proofs.ReadExactly.{table_large, fits_said, fits_table}
 use Rattle.roundtrip.proofs.WriteExactly.{write_exactly}
 use Rattle.roundtrip.proofs.WriteAfterRead.{write_after_read}
 use Rattle.parts.specs.Loops.{is_bundle, loop_fields, most_parts, are_loops, others_in, loops_of}
-use Rattle.parts.specs.Part.{part_width, parts_of, room_of, lent_parts}
+use Rattle.parts.specs.Part.{part_width, parts_of, room_of}
 use Rattle.parts.specs.Fields.{lent_fields}
 use Rattle.parts.specs.Answers.{read_of}
 use Rattle.parts.specs.Read.{Outcome as Read, room_after}
 use Rattle.parts.specs.Write.{has_loop, is_misplaced}
-use Rattle.parts.specs.declared.answer.Verdict.TheVariants.{Fits}
 use Rattle.bundles.specs.Demand2.{parts_call, write_parts_call, CanWriteParts, PartsWrittenBack}
-use Rattle.bundles.proofs.Kept.{AllSound, sound_drop}
+use Rattle.bundles.proofs.Kept.{sound_drop}
 use Rattle.bundles.proofs.LentBack.{room_length}
 use Rattle.bundles.proofs.PartsBack.{all_stored, parts_length, loops_back}
-use Rattle.bundles.proofs.Others.{others_most, others_front, Loops}
+use Rattle.bundles.proofs.Others.{others_most, others_front}
 use Rattle.bundles.proofs.ReadDone.{Done, done, count_is, judged_bundle, judged_none}
 use Rattle.bundles.proofs.Fronts.{bundle_front}
 use Rattle.bundles.proofs.WriteDone.{can_done}

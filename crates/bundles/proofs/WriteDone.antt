@@ -2,27 +2,21 @@
 use mathlib.Core.Path.{◌≡◌, ◌∙◌, ap, sym, refl, subst}
 use mathlib.Core.Bool.{Bool, true, false, not, ◌||◌, false≢true}
 use mathlib.Core.List.{List, ◌++◌}
-use Prim.Native.Nat.{ℕ, ◌+◌, ◌*◌, ◌≤◌, ◌<◌}
-use borrow.Author.Tests.{le-ltb, ltb-false, not-false}
+use Prim.Native.Nat.{ℕ, ◌+◌, ◌*◌, ◌≤◌}
+use borrow.Author.Tests.{le-ltb, ltb-false}
 use lib.Dec.{ltb}
 use lib.ListN.{length, drop}
-use Rattle.cells.specs.Bytes.{pick}
 use Rattle.cells.proofs.Bools.{split}
 use Rattle.record.specs.Fields.{Optional}
-use Rattle.record.specs.Read.{entry_width}
 use Rattle.writing.specs.Write.{Outcome, outcome, entries, optional_of, record_text, write}
-use Rattle.writing.specs.Widths.{all_inside}
 use Rattle.roundtrip.specs.Record.{Makes, CanWrite}
 use Rattle.roundtrip.proofs.WriteExactly.{write_exactly}
 use Rattle.parts.specs.Loops.{most_parts, are_loops}
 use Rattle.parts.specs.Part.{part_width}
 use Rattle.parts.specs.Fields.{lent_fields}
-use Rattle.parts.specs.Answers.{refusal_number, not_written}
+use Rattle.parts.specs.Answers.{not_written}
 use Rattle.parts.specs.Write.{table_with, contents_with, write_with, is_misplaced, is_broken, parts_refused, written_with, write_parts}
-use Rattle.parts.specs.declared.answer.Refusal.{Refusal}
 use Rattle.parts.specs.declared.answer.Refusal.TheVariants.{SmallRoom, Broken, TooMany}
-use Rattle.parts.specs.declared.answer.Verdict.{Verdict}
-use Rattle.parts.specs.declared.answer.Verdict.TheVariants.{Refused, Fits}
 use Rattle.parts.proofs.Joined.{table_whole, table_long}
 use Rattle.parts.proofs.Together.{named_together, inside_together}
 use Rattle.parts.proofs.Stages.{parts_taken}
