@@ -12,9 +12,7 @@ use Rattle.roster.specs.Roster.{entry_width, account_width, ceiling_width, highe
 use Rattle.record.specs.Layout.{kind_of}
 use Rattle.own.specs.Own.{parties_end, account_by, own_entry}
 use Rattle.own.proofs.Own.{account_wide}
-use borrow.Author.Rules.{rules}
-use Rattle.own.proofs.own_entry.Statement.{statement}
-use Rattle.own.proofs.own_entry.Tie as tie
+use Rattle.own.proofs.own_entry.Goals as goal
 
 -- an array that account and ceiling fill is the entry
 entry_filled : (s d e : List ℕ) → parties_end ≤ length s → d ≡ sets (replicate entry_width 0) 0 (account_by (kind_of s) s)
@@ -26,37 +24,10 @@ entry_filled s d e h f g =
     filled_whole {n = entry_width} {ps = account ∷ ceiling ∷ []} {out = e}
     (filled_first {p = account} {ps = ceiling ∷ []} f (account_wide s (kind_of s) h) (filled_next {p = ceiling} {ps = []} g refl filled_end))
 
-slice-aggregate-paste-at : tie.Need-slice-aggregate-paste-at
-slice-aggregate-paste-at c = search rules
+pub paste_at-requires : goal.paste_at-requires
+paste_at-requires c =
+    rw (c.own_account.ensures, account_wide c.args.s.now (kind_of c.args.s.now) c.requires) (omega arith)
 
-own-account-requires : tie.Need-own-account-requires
-own-account-requires c κs = search rules
-
-paste-at-requires : tie.Need-paste-at-requires
-paste-at-requires c κs =
-    let start = c.before.before.before in
-    rw (c.own-account.ensures, account_wide start.args.s.now (kind_of start.args.s.now) start.requires) (omega arith)
-
-slice-aggregate-put4 : tie.Need-slice-aggregate-put4
-slice-aggregate-put4 c = search rules
-
-put4-requires : tie.Need-put4-requires
-put4-requires c κs = search rules
-
-returns : tie.Need-returns
+pub returns : goal.returns
 returns c =
-    let paste = c.before.before.before.before in
-    let own = paste.before in
-    let start = own.before.before.before in
-    entry_filled start.args.s.now _ _ start.requires (rw own.own-account.ensures at paste.paste-at.ensures) c.before.put4.ensures
-
-pub own-entry-spec : {M : Type 1} → statement M
-own-entry-spec =
-    tie.close
-    (tie.spec
-    slice-aggregate-paste-at
-    own-account-requires
-    paste-at-requires
-    slice-aggregate-put4
-    put4-requires
-    returns)
+    entry_filled c.args.s.now _ _ c.requires (rw c.own_account.ensures at c.paste_at.ensures) c.put4.ensures
