@@ -16,7 +16,7 @@ use Rattle.book.specs.Booking.{article_fields, article_in, agreed_at, agreed_as,
 use Rattle.book.specs.declared.answer.Verdict.TheVariants.{Fits}
 use Rattle.book.specs.declared.answer.Booked.{Booked}
 use Rattle.balance.specs.Met.{Met}
-use Rattle.balance.specs.Told.{told, rooms_of}
+use Rattle.balance.specs.Told.{rooms_of}
 use Rattle.balance.specs.Demand3.{key_fields_in, Given, fresh, give, give_all}
 use Rattle.balance.specs.Agreed.{article_on, ordered_for, AgreedTells}
 use Rattle.balance.proofs.Accepted.{accepted}

@@ -3,7 +3,7 @@ use mathlib.Core.Path.{◌≡◌, ◌∙◌, ap, sym, refl}
 use mathlib.Core.Bool.{Bool, true, false}
 use mathlib.Core.Logic.{◌⊎◌, inl, inr}
 use mathlib.Core.List.{List, [], ◌∷◌, ◌++◌, map, map-append, append_assoc, append-nil}
-use Prim.Native.Nat.{ℕ, ◌+◌}
+use Prim.Native.Nat.{ℕ}
 use native.Mathlib.Omega.{arith}
 use lib.ListN.{length}
 use Rattle.cells.specs.Bytes.{pick}
@@ -16,7 +16,6 @@ use Rattle.ledger.specs.History.{State, settle, booking, bookings}
 use Rattle.ledger.proofs.Lists.{Each}
 use Rattle.ledger.proofs.Members.{keep_within}
 use Rattle.ledger.proofs.Gives.{first_accepted}
-use Rattle.ledger.proofs.Slips.{slip_once}
 use Rattle.book.specs.Lent.{used_lines, used_slips, line_room, slip_room, sound, rooms_sound}
 use Rattle.book.specs.Booking.{refused_as}
 use Rattle.book.specs.Asked.{line_asked}

@@ -1,6 +1,6 @@
 -- A record is accepted exactly where none of the refusals holds, each said of the lent bytes.
 use mathlib.Core.Path.{◌≡◌, ◌∙◌, ap, sym, refl}
-use mathlib.Core.Bool.{true, false, false≢true}
+use mathlib.Core.Bool.{false, false≢true}
 use mathlib.Core.Logic.{◌≢◌, ◌⊎◌, inl, inr}
 use mathlib.Core.List.{List}
 use Prim.Native.Nat.{ℕ, ◌+◌}

@@ -1,5 +1,5 @@
-// The roster as a lent array of schools. The checker covers no function with a `&[School]`: `is_account`, `find_school` and
-// `ceiling_of` are walked by hand, and kept thin. What takes a school or numbers by value is covered.
+// The roster as a lent array of schools. `is_account`, `find_school` and `ceiling_of` look into the slice, and are kept thin; what else
+// there is takes a school or numbers by value.
 ghost use Rattle.std.specs.Prelude.{◌≡◌, ◌<◌, length};
 ghost use Rattle.roster.specs.Schools.{is_of, is_account, place_in, find_school, ceiling_of, told_at};
 

@@ -3,7 +3,6 @@ use Prim.Native.Nat.{◌+◌, ◌*◌}
 use native.Mathlib.Omega.{arith}
 use Rattle.cells.proofs.Parts.{part_is}
 use Rattle.roster.specs.Roster.{account_at, account_is}
-use borrow.Author.Rules.{rules}
 use Rattle.roster.proofs.account_is.Goals as goal
 
 pub returns : goal.returns

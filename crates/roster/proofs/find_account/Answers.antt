@@ -1,12 +1,9 @@
 -- `roster::find_account` meets its contract. The invariant: the entries that are left give the same result as all of them.
-use mathlib.Core.Path.{◌≡◌, refl, sym, ◌∙◌}
-use Prim.Native.Nat.{◌≤◌, ◌-◌, ◌/◌}
+use mathlib.Core.Path.{refl, sym, ◌∙◌}
 use native.Mathlib.Nat.{sub-zero}
 use native.Mathlib.Omega.{arith}
-use Rattle.cells.specs.Search.{first_from}
 use Rattle.cells.proofs.Searches.{first_here, first_next, first_end}
-use lib.ListN.{length}
-use Rattle.roster.specs.Roster.{entry_width, entries, account_is, find_account}
+use Rattle.roster.specs.Roster.{entries, find_account}
 use Rattle.roster.proofs.find_account.Goals as goal
 
 pub loop-i-init : goal.loop-i-init

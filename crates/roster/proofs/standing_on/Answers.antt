@@ -1,7 +1,6 @@
 -- `roster::standing_on` meets its contract.
 use mathlib.Core.Path.{◌∙◌, sym, ap}
 use native.Mathlib.Omega.{arith}
-use borrow.Author.Rules.{rules}
 use Rattle.roster.specs.Roster.{ceiling_at}
 use Rattle.roster.specs.declared.Standing.TheVariants.{On}
 use Rattle.roster.proofs.Standings.{stands_off, stands_on, entry_stands}

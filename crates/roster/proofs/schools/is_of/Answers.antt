@@ -1,7 +1,6 @@
 -- `roster::schools::is_of` meets its contract: the school's two arrays are compared, each lent as a slice.
 use mathlib.Core.Path.{refl}
 use Rattle.cells.proofs.Bools.{is_not, is_so}
-use borrow.Author.Rules.{rules}
 use Rattle.roster.specs.Schools.{is_of}
 use Rattle.roster.proofs.schools.is_of.Goals as goal
 
