@@ -28,10 +28,10 @@ module _ (fields : List (List ℕ)) (b : Lent) where
   asked_unsound h = rw h
 
   module _ (h : sound b ≡ true) where
-    pub asked-none : are_wide key_widths fields ≡ false → line_asked fields b ≡ refused_as NoLine
+    pub asked_none : are_wide key_widths fields ≡ false → line_asked fields b ≡ refused_as NoLine
     unfolding line_asked figures_of_key
-    asked-none e = rw (h, e)
+    asked_none e = rw (h, e)
 
-    pub asked-found : are_wide key_widths fields ≡ true → line_asked fields b ≡ figures_at b (find_line b (joined fields))
+    pub asked_found : are_wide key_widths fields ≡ true → line_asked fields b ≡ figures_at b (find_line b (joined fields))
     unfolding line_asked figures_of_key
-    asked-found e = rw (h, e)
+    asked_found e = rw (h, e)

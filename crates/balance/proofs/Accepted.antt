@@ -86,23 +86,23 @@ pub refused_or_accepted : (s : Met) (b : Lent) → Refuses (book_call s b) b ⊎
 unfolding book book_read book_kind book_as settled entered_as done_as
 refused_or_accepted s b =
     split (roster_sound s.roster)
-    (λ t. split (sound b) (λ h. at-reading t h (judged s.given) refl) (λ h. inl (rw (t, h) (refuses Unsound b))))
+    (λ t. split (sound b) (λ h. at_reading t h (judged s.given) refl) (λ h. inl (rw (t, h) (refuses Unsound b))))
     (λ t. inl (rw t (refuses Unsound b)))
   where
-    at-verdict : roster_sound s.roster ≡ true → sound b ≡ true → (n : ℕ) → judged s.given ≡ ReadFits n → (k : Kind) → kind_of s.given ≡ Known k
+    at_verdict : roster_sound s.roster ≡ true → sound b ≡ true → (n : ℕ) → judged s.given ≡ ReadFits n → (k : Kind) → kind_of s.given ≡ Known k
         → (v : Verdict) → fit_judged k s.given s.roster b ≡ v → Refuses (book_call s b) b ⊎ Accepts s b
-    at-verdict t h n r k g (Refuse x) f = inl (rw (t, h, r, g, f) (refuses x b))
-    at-verdict t h n r k g (Fits i) f =
+    at_verdict t h n r k g (Refuse x) f = inl (rw (t, h, r, g, f) (refuses x b))
+    at_verdict t h n r k g (Fits i) f =
         inr (record { is_roster = t; is_sound = h; fields = n; read = r; kind = k; known = g; place = i; fits = f; said = rw (t, h, r, g, f); answer = rw (t, h, r, g, f); lent = rw (t, h, r, g, f) })
 
-    at-kind : roster_sound s.roster ≡ true → sound b ≡ true → (n : ℕ) → judged s.given ≡ ReadFits n → (k : Kinded) → kind_of s.given ≡ k
+    at_kind : roster_sound s.roster ≡ true → sound b ≡ true → (n : ℕ) → judged s.given ≡ ReadFits n → (k : Kinded) → kind_of s.given ≡ k
         → Refuses (book_call s b) b ⊎ Accepts s b
-    at-kind t h n r Unknown g = inl (rw (t, h, r, g) (refuses NothingToBook b))
-    at-kind t h n r (Known k) g = at-verdict t h n r k g (fit_judged k s.given s.roster b) refl
+    at_kind t h n r Unknown g = inl (rw (t, h, r, g) (refuses NothingToBook b))
+    at_kind t h n r (Known k) g = at_verdict t h n r k g (fit_judged k s.given s.roster b) refl
 
-    at-reading : roster_sound s.roster ≡ true → sound b ≡ true → (v : Reading) → judged s.given ≡ v → Refuses (book_call s b) b ⊎ Accepts s b
-    at-reading t h (ReadRefused x) r = inl (rw (t, h, r) (refuses (Unread x) b))
-    at-reading t h (ReadFits n) r = at-kind t h n r (kind_of s.given) refl
+    at_reading : roster_sound s.roster ≡ true → sound b ≡ true → (v : Reading) → judged s.given ≡ v → Refuses (book_call s b) b ⊎ Accepts s b
+    at_reading t h (ReadRefused x) r = inl (rw (t, h, r) (refuses (Unread x) b))
+    at_reading t h (ReadFits n) r = at_kind t h n r (kind_of s.given) refl
 
 -- a record that answers 0 is accepted
 pub accepted : (s : Met) (b : Lent) → (book_call s b).said.answer ≡ 0 → Accepts s b

@@ -16,7 +16,7 @@ use Rattle.ledger.specs.Book.{Line, Rooms, filled, let_go, still_open, extra}
 use Rattle.ledger.specs.Booking.{Fit, line_at as line_with}
 use Rattle.ledger.specs.History.{State, empty, bookings, key_of as keyIn, lines_of, part, records_of as fits_of, is_order as isOrdering, on_order, on_slip, has_slip}
 use Rattle.ledger.proofs.Lists.{Each, each_more, total_map}
-use Rattle.ledger.proofs.Members.{total_keep, each_kept, keep-each, total-each, keep-mapped, keep_nothing}
+use Rattle.ledger.proofs.Members.{total_keep, each_kept, keep_each, total_each, keep_mapped, keep_nothing}
 use Rattle.ledger.proofs.Histories.{alone}
 use Rattle.ledger.proofs.Gives.{Gives}
 use Rattle.ledger.proofs.Sums.{order_sum, slip_sum}
@@ -80,7 +80,7 @@ module _ (rooms : Rooms) (g : Given) (kept : Kept g.book) (gives : Gives rooms (
   own_booked : (school : List (List ℕ)) → fits_of (school_test school) fits ≡ map fit_of (records_of school g.accepted)
   unfolding fits_of records_of
   own_booked school =
-      keep-mapped Bookable fit_of (λ (r : Fit). school_test school (keyIn r)) (λ (s : Met). of_school school (key_fields_in s))
+      keep_mapped Bookable fit_of (λ (r : Fit). school_test school (keyIn r)) (λ (s : Met). of_school school (key_fields_in s))
       (λ s b. sym (school_in_law s b school)) g.accepted all
 
   pub own_bookable : (school : List (List ℕ)) → Each Bookable (records_of school g.accepted)
@@ -93,20 +93,20 @@ module _ (rooms : Rooms) (g : Given) (kept : Kept g.book) (gives : Gives rooms (
   summed school f h z same-figure =
       let own : List Met = records_of school g.accepted in
       let lines : List Line = (told g.book).lines in
-      let booked = ap orders_in (own_booked school) ∙ keep-mapped Bookable fit_of isOrdering is_order (λ s b. (booked_as_law s b).ordering) own (own_bookable school) in
+      let booked = ap orders_in (own_booked school) ∙ keep_mapped Bookable fit_of isOrdering is_order (λ s b. (booked_as_law s b).ordering) own (own_bookable school) in
       let by-orders : total f (lines_of (school_test school) lines) ≡ total (λ r. figure_at f lines (keyIn r)) (orders_in (fits_of (school_test school) fits)) =
       rw gives at (lines_by_orders (school_test school) rooms fits f) in
       by-orders
       ∙ ap (total (λ (r : Fit). figure_at f lines (keyIn r))) booked
       ∙ total_map (λ (r : Fit). figure_at f lines (keyIn r)) fit_of (keep is_order own)
-      ∙ total-each Bookable (λ s. figure_at f lines (keyIn (fit_of s))) (λ s. h (figures_for g.book s)) (λ s b. figure_says f h z same-figure (line_with (keyIn (fit_of s)) lines) ∙ ap (λ (x : Said). h x.figures) (sym (asked_own s b))) (keep is_order own) (each_kept Bookable is_order own (own_bookable school))
+      ∙ total_each Bookable (λ s. figure_at f lines (keyIn (fit_of s))) (λ s. h (figures_for g.book s)) (λ s b. figure_says f h z same-figure (line_with (keyIn (fit_of s)) lines) ∙ ap (λ (x : Said). h x.figures) (sym (asked_own s b))) (keep is_order own) (each_kept Bookable is_order own (own_bookable school))
 
   -- the copies on a school's orders, and on its deliveries, as they were booked
   orders_total : (school : List (List ℕ)) → total copies_on (orders_of school g.accepted) ≡ total on_order (fits_of (school_test school) fits)
   orders_total school =
       let own : List Met = records_of school g.accepted in
       total_keep copies_on is_order own
-      ∙ total-each Bookable (λ s. pick (is_order s) (copies_on s) 0) (λ s. on_order (fit_of s)) (λ s b. sym (booked_as_law s b).on_order_law) own (own_bookable school)
+      ∙ total_each Bookable (λ s. pick (is_order s) (copies_on s) 0) (λ s. on_order (fit_of s)) (λ s b. sym (booked_as_law s b).on_order_law) own (own_bookable school)
       ∙ sym (total_map on_order fit_of own)
       ∙ ap (total on_order) (sym (own_booked school))
 
@@ -138,12 +138,12 @@ module _ (rooms : Rooms) (g : Given) (kept : Kept g.book) (gives : Gives rooms (
       let with : Met → Bool = λ s. is_delivery s && same_fields slip (slip_fields_in s) in
       split (are_wide slip_widths slip)
       (λ w.
-      let mine = keep-mapped Bookable fit_of (has_slip (joined slip)) with (λ s b. sym (rw w at ((booked_as_law s b).slip_in_law slip))) g.accepted all in
+      let mine = keep_mapped Bookable fit_of (has_slip (joined slip)) with (λ s b. sym (rw w at ((booked_as_law s b).slip_in_law slip))) g.accepted all in
       let one : length (keep (has_slip (joined slip)) fits) ≤ 1 = rw gives at (slip_once rooms fits (joined slip)) in
       let count : length (map fit_of (keep with g.accepted)) ≡ length (keep with g.accepted) = length-map (keep with g.accepted) fit_of in
       rw (← count) (rw mine at one))
       (λ w.
-      let none-mine = keep-each Bookable with (λ s. false) (λ s b. rw w at ((booked_as_law s b).slip_in_law slip)) g.accepted all ∙ keep_nothing g.accepted in
+      let none-mine = keep_each Bookable with (λ s. false) (λ s b. rw w at ((booked_as_law s b).slip_in_law slip)) g.accepted all ∙ keep_nothing g.accepted in
       rw none-mine (omega arith))
 
   -- a school's records alone are all accepted on lists

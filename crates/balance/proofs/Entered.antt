@@ -16,7 +16,7 @@ use Rattle.entry.specs.Line.{new_line}
 use Rattle.entry.specs.Report.{blank_date}
 use Rattle.entry.specs.Stored.{line_width, key_width, ordered_at, slip_width, slip_key_width, most_copies, line_at, date_at, add_line, key_at, article_at, line_sound, slip_line_at, add_slip}
 use Rattle.entry.specs.declared.line.Line.{Line as Stored}
-use Rattle.entry.proofs.Kept.{Changed, other_line, other_date, same_key, same_article, add_length, add_back, add-date, add_key, add_article, add_apart, add-date-apart, add-key-apart, add-article-apart, slip_length, slip_key_law, slip_line, slip_copies_law, slip-key-apart, slip-line-apart, slip-copies-apart}
+use Rattle.entry.proofs.Kept.{Changed, other_line, other_date, same_key, same_article, add_length, add_back, add_date, add_key, add_article, add_apart, add_date_apart, add_key_apart, add_article_apart, slip_length, slip_key_law, slip_line, slip_copies_law, slip_key_apart, slip_line_apart, slip_copies_apart}
 use Rattle.entry.proofs.Sound.{other_sound, add_sound, add_sound_apart}
 use Rattle.ledger.specs.Book.{Key, Line, Slip}
 use Rattle.book.specs.Lent.{Lent, used_lines, used_slips, line_room, slip_room}
@@ -99,12 +99,12 @@ module _ (b : Lent) (key article : List ℕ) (n : Copies) (k : Kept b) (room : u
   unfolding line_told
   add_other x a c =
       let ne : x ≢ used_lines b = λ e. omega arith in
-      rw (add-key-apart b.lines (used_lines b) (key ++ article) n whole x ne, add-article-apart b.lines (used_lines b) (key ++ article) n whole x ne, add_apart b.lines (used_lines b) (key ++ article) n whole x ne, add-date-apart b.lines (used_lines b) (key ++ article) n whole x ne)
+      rw (add_key_apart b.lines (used_lines b) (key ++ article) n whole x ne, add_article_apart b.lines (used_lines b) (key ++ article) n whole x ne, add_apart b.lines (used_lines b) (key ++ article) n whole x ne, add_date_apart b.lines (used_lines b) (key ++ article) n whole x ne)
 
   add_here : line_told (add_line b.lines (used_lines b) (key ++ article) n) (used_lines b) ≡ line_of key article blank_date (new_line n)
   unfolding line_told line_of
   add_here =
-      rw (add_key b.lines (used_lines b) key article n wide whole next, add_article b.lines (used_lines b) key article n wide whole next, add_back b.lines (used_lines b) (key ++ article) n whole next (omega arith), add-date b.lines (used_lines b) (key ++ article) n whole next)
+      rw (add_key b.lines (used_lines b) key article n wide whole next, add_article b.lines (used_lines b) key article n wide whole next, add_back b.lines (used_lines b) (key ++ article) n whole next (omega arith), add_date b.lines (used_lines b) (key ++ article) n whole next)
 
   -- each line is told as before, and the new one last
   pub add_lines : (told (more_line b (key ++ article) n)).lines ≡ (told b).lines ++ (line_of key article blank_date (new_line n) ∷ [])
@@ -123,7 +123,7 @@ module _ (b : Lent) (key article : List ℕ) (n : Copies) (k : Kept b) (room : u
   add_slip_told x a c =
       let lt = (sound_so b k.is_sound).slip_names x (omega arith) in
       let ne : slip_line_at b.slips x ≢ used_lines b = λ e. omega arith in
-      rw (add-key-apart b.lines (used_lines b) (key ++ article) n whole (slip_line_at b.slips x) ne)
+      rw (add_key_apart b.lines (used_lines b) (key ++ article) n whole (slip_line_at b.slips x) ne)
 
   -- slips name used lines, so each is told as before
   pub add_slips : (told (more_line b (key ++ article) n)).slips ≡ (told b).slips
@@ -183,7 +183,7 @@ module _ (b : Lent) (key : Key) (i : ℕ) (copies : Copies) (k : Kept b) (room :
   unfolding slip_told
   slip_other x a c =
       let ne : x ≢ used_slips b = λ e. omega arith in
-      rw (slip-line-apart b.slips (used_slips b) key i copies wide x ne, slip-key-apart b.slips (used_slips b) key i copies wide x ne, slip-copies-apart b.slips (used_slips b) key i copies wide x ne)
+      rw (slip_line_apart b.slips (used_slips b) key i copies wide x ne, slip_key_apart b.slips (used_slips b) key i copies wide x ne, slip_copies_apart b.slips (used_slips b) key i copies wide x ne)
 
   slip_here : slip_told b.lines (add_slip b.slips (used_slips b) key i copies) (used_slips b) ≡ record { line = key_at b.lines i; says = record { slip = key; copies = copies.0 } }
   unfolding slip_told
@@ -219,6 +219,6 @@ module _ (b : Lent) (key : Key) (i : ℕ) (copies : Copies) (k : Kept b) (room :
             (λ e. let d = eqb-true x n e in rw (d, names, lines_as_before) used)
             (λ e.
             let ne = eqb-false x n e in
-            rw (slip-line-apart b.slips n key i copies wide x ne, lines_as_before) (say.slip_names x (omega (arith, one_slip_more)))));
+            rw (slip_line_apart b.slips n key i copies wide x ne, lines_as_before) (say.slip_names x (omega (arith, one_slip_more)))));
         counts = rw (length-set b.used 1 (n + 1)) k.counts;
       }

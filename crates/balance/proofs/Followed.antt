@@ -19,7 +19,7 @@ use Rattle.rules.specs.Values.{expected_of}
 use Rattle.entry.specs.Line.{new_line, with_report, with_arrivals}
 use Rattle.entry.specs.Stored.{key_width, ordered_at, slip_key_width, most_copies, most_arrived, line_at, put_arrived, put_report, key_is, line_sound, slip_line_at, slip_copies_at}
 use Rattle.entry.proofs.Sound.{arrived_sound, reported_sound}
-use Rattle.entry.proofs.Kept.{Changed, same_key, arrived_changed, arrived_date, arrived-back, report_changed, report_date as date-back, report-back}
+use Rattle.entry.proofs.Kept.{Changed, same_key, arrived_changed, arrived_date, arrived_back, report_changed, report_date as date-back, report_back}
 use Rattle.roster.specs.Roster.{standing}
 use Rattle.roster.specs.declared.Standing.{Standing}
 use Rattle.roster.specs.declared.Standing.TheVariants.{On, Off}
@@ -37,7 +37,7 @@ use Rattle.book.specs.declared.answer.Refused.TheVariants.{SlipBooked, SlipDiffe
 use Rattle.book.specs.declared.answer.Verdict.{Verdict}
 use Rattle.book.specs.declared.answer.Verdict.TheVariants.{Refuse, Fits}
 use Rattle.book.proofs.Sounds.{sound_so}
-use Rattle.balance.proofs.Listings.{change-listed}
+use Rattle.balance.proofs.Listings.{change_listed}
 use Rattle.balance.proofs.Soundness.{Kept}
 use Rattle.book.proofs.Fields.{order_key, order_named, slip_key_width_law, order_copies, goods_copies, report_date, report_small, report_number, report_goes}
 use Rattle.balance.proofs.Accepted.{Accepts}
@@ -139,7 +139,7 @@ module _ (b : Lent) (key : Key) (i : ℕ) (ls : List ℕ) (h : Line → Line) (k
   line_changed : line_told ls i ≡ h (line_told b.lines i) → (told (with_lines b ls)).lines ≡ change_line key h (told b).lines
   unfolding told change_line used_lines find_line
   line_changed e =
-      change-listed (λ (l : Line). same key l.key) (key_is b.lines key) (line_told b.lines) (key_told b key) h
+      change_listed (λ (l : Line). same key l.key) (key_is b.lines key) (line_told b.lines) (key_told b key) h
       (line_told ls) (used_lines b) 0 i f e (put_other b i ls c k)
 
 -- an order is entered
@@ -165,7 +165,7 @@ module _ (b : Lent) (k : Kept b) (i : ℕ) (used : i < used_lines b) (copies : C
 
   pub line_arrived : line_at lines_arrived i ≡ with_arrivals copies (line_at b.lines i)
   unfolding with_arrivals
-  line_arrived = arrived-back b.lines i (with_arrivals copies (line_at b.lines i)).arrived (at b i k used) (omega arith)
+  line_arrived = arrived_back b.lines i (with_arrivals copies (line_at b.lines i)).arrived (at b i k used) (omega arith)
 
   arrived_told : line_told lines_arrived i ≡ arrive copies.0 (line_told b.lines i)
   unfolding line_of with_arrivals arrive line_told
@@ -219,7 +219,7 @@ module _ (b : Lent) (s : List ℕ) (n i : ℕ) (k : Kept b) (fit : Fitting Repor
 
   pub line_reported : line_at lines_reported i ≡ with_report (mark_in s) (message_in s) (expected_of (date_in s)) (line_at b.lines i)
   line_reported =
-      report-back b.lines i (mark_in s) (message_in s) (date_in s) (report_date s n fit) (at b i k used) (report_small s n fit) (report_number s n fit)
+      report_back b.lines i (mark_in s) (message_in s) (date_in s) (report_date s n fit) (at b i k used) (report_small s n fit) (report_number s n fit)
 
   reported_told_law : line_told lines_reported i ≡ tell (said_in s) (line_told b.lines i)
   unfolding line_of with_report tell line_told
@@ -281,10 +281,10 @@ module _ (s roster : List ℕ) (b : Lent) (i n : ℕ) (k : Kept b) where
   kind_follows Goods fit e = goods_follows fit e
   kind_follows Closing fit e =
       let p = fit_passed Closing s roster b i e in
-      closing-never p.ceiling p.judged_fit
+      closing_never p.ceiling p.judged_fit
     where
-      closing-never : (ceiling : ℕ) → book_judged Closing s ceiling b ≡ Fits i → Follows b (fit_as Closing s roster) (lent_after Closing s b i)
-      closing-never ceiling e = unfold book_judged in let z : ◌≡◌ {A = ℕ} 0 1 = cc in absurd (omega arith)
+      closing_never : (ceiling : ℕ) → book_judged Closing s ceiling b ≡ Fits i → Follows b (fit_as Closing s roster) (lent_after Closing s b i)
+      closing_never ceiling e = unfold book_judged in let z : ◌≡◌ {A = ℕ} 0 1 = cc in absurd (omega arith)
   kind_follows Report fit e = report_follows fit e
 
 -- a record that is accepted

@@ -17,7 +17,7 @@ use Rattle.book.specs.Lent.{Lent, used_lines, used_slips, slip_room, find_line, 
 use Rattle.balance.specs.Told.{line_told, slip_told, told, rooms_of}
 use Rattle.cells.specs.declared.search.Found.TheVariants.{At, Nothing}
 use Rattle.cells.proofs.Searches.{found_at}
-use Rattle.balance.proofs.Listings.{listed_length, none-listed, first-listed}
+use Rattle.balance.proofs.Listings.{listed_length, none_listed, first_listed}
 
 -- lists are compared either way round
 pub same_turned : (a b : List ℕ) → same a b ≡ same b a
@@ -39,12 +39,12 @@ module _ (b : Lent) (key : Key) where
   -- no line has the key
   pub no_line : find_line b key ≡ Nothing → line_with key (told b).lines ≡ none
   unfolding find_line told line_with
-  no_line e = none-listed (λ l. same key l.key) (key_is b.lines key) (line_told b.lines) key_told (used_lines b) 0 e
+  no_line e = none_listed (λ l. same key l.key) (key_is b.lines key) (line_told b.lines) key_told (used_lines b) 0 e
 
   -- the line at i is the first with the key
   pub line_found : (i : ℕ) → find_line b key ≡ At i → line_with key (told b).lines ≡ some (line_told b.lines i)
   unfolding find_line told line_with
-  line_found i e = first-listed (λ l. same key l.key) (key_is b.lines key) (line_told b.lines) key_told (used_lines b) 0 i e
+  line_found i e = first_listed (λ l. same key l.key) (key_is b.lines key) (line_told b.lines) key_told (used_lines b) 0 i e
 
   -- it is used, and the key is its own
   pub line_used : (i : ℕ) → find_line b key ≡ At i → (i < used_lines b) × (key_at b.lines i ≡ key)
@@ -57,13 +57,13 @@ module _ (b : Lent) (key : Key) where
   pub no_slip : find_slip b key ≡ Nothing → slip_with key (told b).slips ≡ none
   unfolding find_slip told slip_with
   no_slip e =
-      none-listed (λ t. same key t.says.slip) (slip_is b.slips key) (slip_told b.lines b.slips) slip_told_law (used_slips b) 0 e
+      none_listed (λ t. same key t.says.slip) (slip_is b.slips key) (slip_told b.lines b.slips) slip_told_law (used_slips b) 0 e
 
   -- the slip at j is the first with the key
   pub slip_found : (j : ℕ) → find_slip b key ≡ At j → slip_with key (told b).slips ≡ some (slip_told b.lines b.slips j)
   unfolding find_slip told slip_with
   slip_found j e =
-      first-listed (λ t. same key t.says.slip) (slip_is b.slips key) (slip_told b.lines b.slips) slip_told_law (used_slips b) 0 j e
+      first_listed (λ t. same key t.says.slip) (slip_is b.slips key) (slip_told b.lines b.slips) slip_told_law (used_slips b) 0 j e
 
 -- as many lines and slips are told as are used
 pub lines_told : (b : Lent) → length (told b).lines ≡ used_lines b

@@ -26,7 +26,7 @@ use Rattle.ledger.specs.Book.{Key, Report as Telling, Line, Rooms}
 use Rattle.ledger.specs.Booking.{Fit, line_at as line_with}
 use Rattle.ledger.specs.History.{key_of as keyIn, lines_of, records_of as fits_of, on_slip, last_report, line_from as lineGiven}
 use Rattle.ledger.proofs.Lists.{Each, total_map}
-use Rattle.ledger.proofs.Members.{total_keep, foremost, first_foremost, each_kept, keep-each, total-each, keep-mapped, keep_nothing}
+use Rattle.ledger.proofs.Members.{total_keep, foremost, first_foremost, each_kept, keep_each, total_each, keep_mapped, keep_nothing}
 use Rattle.ledger.proofs.Gives.{Gives}
 use Rattle.ledger.proofs.Lines.{every_line}
 use Rattle.book.specs.Booking.{article_in, copies_in, mark_in, message_in, date_in, nothing_to_book}
@@ -46,7 +46,7 @@ use Rattle.balance.proofs.Figures.{Together, done_told, asked_tells, said_in_law
 pub slips_total : (ss : List Met) → Each Bookable ss → total on_slip (map fit_of ss) ≡ total copies_on (keep is_delivery ss)
 slips_total ss h =
     total_map on_slip fit_of ss
-    ∙ total-each Bookable (λ s. on_slip (fit_of s)) (λ s. pick (is_delivery s) (copies_on s) 0) (λ s b. (booked_as_law s b).on_slip_law) ss h
+    ∙ total_each Bookable (λ s. on_slip (fit_of s)) (λ s. pick (is_delivery s) (copies_on s) 0) (λ s b. (booked_as_law s b).on_slip_law) ss h
     ∙ sym (total_keep copies_on is_delivery ss)
 
 -- what the last of some reports says, or what was said before, as a last report
@@ -147,7 +147,7 @@ module _ (rooms : Rooms) (g : Given) (kept : Kept g.book) (gives : Gives rooms (
   unfolding records_with fits_of
   begun_with fields w =
       let with : Met → Bool = λ s. same_fields fields (key_fields_in s) in
-      let mine = keep-mapped Bookable fit_of (λ (r : Fit). same (joined fields) (keyIn r)) with (λ s b. sym (rw w at (key_in s b fields))) g.accepted all in
+      let mine = keep_mapped Bookable fit_of (λ (r : Fit). same (joined fields) (keyIn r)) with (λ s b. sym (rw w at (key_in s b fields))) g.accepted all in
       line_given (joined fields) ∙ ap (λ (rs : List Fit). foremost (lineGiven (joined fields) rs)) mine ∙ own_begun (joined fields) (keep with g.accepted) (each_kept Bookable with g.accepted all)
 
   -- each key's answer follows from its own accepted records
@@ -160,7 +160,7 @@ module _ (rooms : Rooms) (g : Given) (kept : Kept g.book) (gives : Gives rooms (
       (split (are_wide key_widths fields)
       (λ w. rw w (ap says_of (begun_with fields w) ∙ begun_says (joined fields) (records_with fields g.accepted)))
       (λ w.
-      let none-mine = keep-each Bookable with (λ s. false) (λ s b. rw w at (key_in s b fields)) g.accepted all ∙ keep_nothing g.accepted in
+      let none-mine = keep_each Bookable with (λ s. false) (λ s b. rw w at (key_in s b fields)) g.accepted all ∙ keep_nothing g.accepted in
       rw (w, none-mine) (unfold line_from in refl)))
 
   -- and so does the article of its line

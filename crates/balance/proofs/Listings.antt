@@ -40,29 +40,29 @@ module _ {A : Type 0} where
   -- a test of entries that is a test of their places
   module _ (q : A → Bool) (p : ℕ → Bool) (f : ℕ → A) (same : (x : ℕ) → q (f x) ≡ p x) where
     -- no place is found: no entry passes
-    pub none-listed : (n i : ℕ) → first_from p n i ≡ Nothing → first q (listed f n i) ≡ none
+    pub none_listed : (n i : ℕ) → first_from p n i ≡ Nothing → first q (listed f n i) ≡ none
     unfolding listed first_from first
-    none-listed zero i e = refl
-    none-listed (suc n) i e =
+    none_listed zero i e = refl
+    none_listed (suc n) i e =
         split (p i)
         (λ h. let z : ◌≡◌ {A = ℕ} 0 1 = cc in absurd (omega arith))
-        (λ h. rw (same i, h) (none-listed n (suc i) (rw h at e)))
+        (λ h. rw (same i, h) (none_listed n (suc i) (rw h at e)))
 
     -- the entry at the place found is the first that passes
-    pub first-listed : (n i j : ℕ) → first_from p n i ≡ At j → first q (listed f n i) ≡ some (f j)
+    pub first_listed : (n i j : ℕ) → first_from p n i ≡ At j → first q (listed f n i) ≡ some (f j)
     unfolding listed first_from first
-    first-listed zero i j e = let z : ◌≡◌ {A = ℕ} 0 1 = cc in absurd (omega arith)
-    first-listed (suc n) i j e =
+    first_listed zero i j e = let z : ◌≡◌ {A = ℕ} 0 1 = cc in absurd (omega arith)
+    first_listed (suc n) i j e =
         split (p i)
         (λ h. let d : i ≡ j = cc in rw (same i, h) (ap (λ (x : ℕ). some (f x)) d))
-        (λ h. rw (same i, h) (first-listed n (suc i) j (rw h at e)))
+        (λ h. rw (same i, h) (first_listed n (suc i) j (rw h at e)))
 
     -- a change of the first that passes changes the entry at the place found
-    pub change-listed : (h : A → A) (g : ℕ → A) (n i j : ℕ) → first_from p n i ≡ At j → g j ≡ h (f j) → ((x : ℕ) → x ≢ j → g x ≡ f x)
+    pub change_listed : (h : A → A) (g : ℕ → A) (n i j : ℕ) → first_from p n i ≡ At j → g j ≡ h (f j) → ((x : ℕ) → x ≢ j → g x ≡ f x)
         → listed g n i ≡ change q h (listed f n i)
     unfolding listed first_from change
-    change-listed h g zero i j e here apart = let z : ◌≡◌ {A = ℕ} 0 1 = cc in absurd (omega arith)
-    change-listed h g (suc n) i j e here apart =
+    change_listed h g zero i j e here apart = let z : ◌≡◌ {A = ℕ} 0 1 = cc in absurd (omega arith)
+    change_listed h g (suc n) i j e here apart =
         split (p i)
         (λ t.
         let d : i ≡ j = cc in
@@ -71,4 +71,4 @@ module _ {A : Type 0} where
         (λ t.
         let w : first_from p n (suc i) ≡ At j = rw t at e in
         let l = (found_at p n (suc i) j w).0 in
-        rw (same i, t) (ap₂ (λ (a : A) (l : List A). a ∷ l) (apart i (λ k. omega arith)) (change-listed h g n (suc i) j w here apart)))
+        rw (same i, t) (ap₂ (λ (a : A) (l : List A). a ∷ l) (apart i (λ k. omega arith)) (change_listed h g n (suc i) j w here apart)))

@@ -29,14 +29,14 @@ module _ (lines slips used : List ℕ) where
       (s.lines_in, omega (arith, s.lines_fit, s.lines_most), s.all_sound)
 
   module _ (school : List ℕ) {r : ℕ} where
-    pub open-below : sound (lent lines slips used) ≡ true → r ≡ sum_from (open_at lines school) (get_or used 0 0) 0 → r ≤ most_copies * most_lines
+    pub open_below : sound (lent lines slips used) ≡ true → r ≡ sum_from (open_at lines school) (get_or used 0 0) 0 → r ≤ most_copies * most_lines
     unfolding used_lines
-    open-below h e =
+    open_below h e =
         let s = sound_so (lent lines slips used) h in
         let most = sum_most (open_at lines school) (get_or used 0 0) 0 (λ j a b. open_bounded lines school j (s.line_sound_law j (omega arith))) in
         omega (arith, e, most, s.lines_fit, s.lines_most)
 
     -- and the sum is the school's open copies
-    pub open-sum : r ≡ sum_from (open_at lines school) (get_or used 0 0) 0 → r ≡ open_copies (lent lines slips used) school
+    pub open_sum : r ≡ sum_from (open_at lines school) (get_or used 0 0) 0 → r ≡ open_copies (lent lines slips used) school
     unfolding open_copies used_lines
-    open-sum e = e
+    open_sum e = e

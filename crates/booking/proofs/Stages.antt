@@ -39,18 +39,18 @@ module _ (s roster : List ℕ) (b : Lent) where
   book_unsound h = rw h
 
   module _ (h : roster_sound roster && sound b ≡ true) where
-    pub book-unread : (r : Refusal) → judged s ≡ ReadRefused r → book s roster b ≡ outcome (not_booked (Unread r)) b
+    pub book_unread : (r : Refusal) → judged s ≡ ReadRefused r → book s roster b ≡ outcome (not_booked (Unread r)) b
     unfolding book book_read
-    book-unread r e = rw (h, e)
+    book_unread r e = rw (h, e)
 
     module _ (n : ℕ) (e : judged s ≡ ReadFits n) where
-      pub book-unknown : kind_of s ≡ Unknown → book s roster b ≡ outcome (not_booked NothingToBook) b
+      pub book_unknown : kind_of s ≡ Unknown → book s roster b ≡ outcome (not_booked NothingToBook) b
       unfolding book book_read book_kind
-      book-unknown k = rw (h, e, k)
+      book_unknown k = rw (h, e, k)
 
-      pub book-known : (k : Kind) → kind_of s ≡ Known k → book s roster b ≡ book_as k s roster b
+      pub book_known : (k : Kind) → kind_of s ≡ Known k → book s roster b ≡ book_as k s roster b
       unfolding book book_read book_kind
-      book-known k g = rw (h, e, g)
+      book_known k g = rw (h, e, g)
 
 -- a record of a kind, by what the book says of it
 module _ (k : Kind) (s roster : List ℕ) (b : Lent) where
@@ -130,9 +130,9 @@ pub goods_fits : (s roster : List ℕ) (b : Lent) (i : ℕ) → fit_judged Goods
 unfolding book_judged delivery_judged goods_judged arrival_judged slip_judged
 goods_fits s roster b i e = go (find_slip b (slip_key s)) refl (judged_fits Goods s roster b i e).fits
   where
-    in-line : find_slip b (slip_key s) ≡ Nothing → (f : Found) → find_line b (line_key Goods s) ≡ f → goods_judged b (copies_in Goods s) f ≡ Fits i → GoodsFits s b i
-    in-line n Nothing g q = let z : ◌≡◌ {A = ℕ} 0 1 = cc in absurd (omega arith)
-    in-line n (At j) g q =
+    in_line : find_slip b (slip_key s) ≡ Nothing → (f : Found) → find_line b (line_key Goods s) ≡ f → goods_judged b (copies_in Goods s) f ≡ Fits i → GoodsFits s b i
+    in_line n Nothing g q = let z : ◌≡◌ {A = ℕ} 0 1 = cc in absurd (omega arith)
+    in_line n (At j) g q =
         let p = passed (leb ((line_at b.lines j).arrived.0 + (copies_in Goods s).0) most_arrived) _ _ i q in
         let r = passed (ltb (used_slips b) (slip_room b)) _ (Fits j) i p.1 in
         let same : Fits j ≡ Fits i = r.1 in
@@ -146,7 +146,7 @@ goods_fits s roster b i e = go (find_slip b (slip_key s)) refl (judged_fits Good
 
     go : (f : Found) → find_slip b (slip_key s) ≡ f → delivery_judged b (line_key Goods s) (copies_in Goods s) f ≡ Fits i → GoodsFits s b i
     go (At j) g q = absurd (never (key_is b.lines (line_key Goods s) (slip_line_at b.slips j) && eqb (slip_copies_at b.slips j).0 (copies_in Goods s).0) SlipBooked SlipDiffers i q)
-    go Nothing g q = in-line g (find_line b (line_key Goods s)) refl q
+    go Nothing g q = in_line g (find_line b (line_key Goods s)) refl q
 
 -- a report fits at its line
 pub report_fits_law : (s roster : List ℕ) (b : Lent) (i : ℕ) → fit_judged Report s roster b ≡ Fits i → find_line b (line_key Report s) ≡ At i

@@ -23,7 +23,7 @@ use Rattle.record.specs.declared.layout.Kind.{Kind}
 use Rattle.record.specs.declared.layout.Kinded.TheVariants.{Known}
 use Rattle.writing.specs.Write.{Outcome, outcome, entries, optional_of, optional_text, record_text}
 use Rattle.writing.specs.Widths.{all_inside}
-use Rattle.writing.proofs.Halves.{entries_length, fields_length, fields-take, inside_take}
+use Rattle.writing.proofs.Halves.{entries_length, fields_length, fields_take, inside_take}
 use Rattle.roundtrip.specs.Record.{Makes, CanWrite}
 use Rattle.roundtrip.specs.Demand2.{written, read_call, write_call}
 use Rattle.roundtrip.proofs.Texts.{contents_allowed, text_allowed}
@@ -111,15 +111,15 @@ module _ (fixed table : List ℕ) (count : ℕ) (contents parts : List ℕ) (n :
 
   -- of a bundle
   module _ (b : is_bundle fixed ≡ true) where
-    some-begun : (eqb n 0 || has_loop table count) ≡ false
+    some_begun : (eqb n 0 || has_loop table count) ≡ false
     unfolding is_misplaced
-    some-begun = rw b at c.placed
+    some_begun = rw b at c.placed
 
     some : 1 ≤ n
-    some = not_zero n (neither (eqb n 0) (has_loop table count) some-begun).0
+    some = not_zero n (neither (eqb n 0) (has_loop table count) some_begun).0
 
     none : others_in body ≡ count
-    none = none_begun fixed table count n c.listed contents (neither (eqb n 0) (has_loop table count) some-begun).1
+    none = none_begun fixed table count n c.listed contents (neither (eqb n 0) (has_loop table count) some_begun).1
 
     before_parts : others_in fields ≡ count
     before_parts = others_append body more (none ∙ sym as_many) ∙ rw (loops_first n more some c.are_loops_law) (omega (arith, as_many))

@@ -20,7 +20,7 @@ use Rattle.record.specs.declared.layout.Kind.{Kind}
 use Rattle.record.specs.declared.layout.Kinded.TheVariants.{Known}
 use Rattle.writing.specs.Write.{Outcome, outcome, entries, optional_of, record_text}
 use Rattle.writing.specs.Widths.{all_inside}
-use Rattle.writing.proofs.Halves.{fields-take, inside_take}
+use Rattle.writing.proofs.Halves.{fields_take, inside_take}
 use Rattle.roundtrip.specs.Record.{Makes, CanWrite}
 use Rattle.roundtrip.specs.Demand2.{read_call, write_call, WritesBack}
 use Rattle.roundtrip.proofs.Whole.{Whole, made_whole}
@@ -103,41 +103,41 @@ module _ (k : Kind) (s table room out : List ℕ) (g : kind_of s ≡ Known k) (a
 
   -- all fields are so many, of which the parts have ten each
   module _ (few : n * loop_fields ≤ total) where
-    split-total : own + n * loop_fields ≡ total
-    split-total = omega arith
+    split_total : own + n * loop_fields ≡ total
+    split_total = omega arith
 
-    own-fields : optional_of s (entries own filled) ≡ take own fields
-    own-fields =
-        sym (fields-take s own (n * loop_fields) filled)
-        ∙ ap (take own) (ap (λ (m : ℕ). optional_of s (entries m filled)) split-total ∙ named)
+    own_fields : optional_of s (entries own filled) ≡ take own fields
+    own_fields =
+        sym (fields_take s own (n * loop_fields) filled)
+        ∙ ap (take own) (ap (λ (m : ℕ). optional_of s (entries m filled)) split_total ∙ named)
 
-    own-inside : all_inside s (entries own filled) ≡ true
-    own-inside = inside_take s own (n * loop_fields) filled (rw split-total can.lent)
+    own_inside : all_inside s (entries own filled) ≡ true
+    own_inside = inside_take s own (n * loop_fields) filled (rw split_total can.lent)
 
-    own-listed : own * entry_width ≤ length filled
-    own-listed = omega (arith, can.listed)
+    own_listed : own * entry_width ≤ length filled
+    own_listed = omega (arith, can.listed)
 
     -- what writing with parts needs is there, where the parts are lent, placed and have the fields behind those
     module _ (most : n ≤ most_parts) (wide : n * part_width ≤ length lent) (placed : is_misplaced fixed filled own n ≡ false)
         (behind : lent_fields n lent 0 ≡ drop own fields) (loops : are_loops n (drop own fields) ≡ true) where
       together : optional_of s (entries own filled) ++ lent_fields n lent 0 ≡ fields
-      together = ap₂ (λ (x y : List Optional). x ++ y) own-fields behind ∙ take-append-drop own fields
+      together = ap₂ (λ (x y : List Optional). x ++ y) own_fields behind ∙ take-append-drop own fields
 
-      can-parts : CanWriteParts fixed filled own s lent n out
-      can-parts = record {
+      can_parts : CanWriteParts fixed filled own s lent n out
+      can_parts = record {
         few = most;
         lent = wide;
         placed = placed;
         are_loops_law = ap (are_loops n) behind ∙ loops;
-        listed = own-listed;
-        inside = own-inside;
+        listed = own_listed;
+        inside = own_inside;
         makes = subst (Makes fixed) (sym together) makes;
         room = subst (λ (fs : List Optional). length (record_text fixed fs) ≤ length out) (sym together) (rw text_same long);
       }
 
       back : write_parts_call fixed filled own s lent n out ≡ outcome (record { answer = 0; place = 0; length = length s }) (s ++ drop (length s) out)
       back =
-          can_done fixed filled own s lent n out can-parts
+          can_done fixed filled own s lent n out can_parts
           ∙ ap (λ (t : List ℕ). outcome (record { answer = 0; place = 0; length = length t }) (t ++ drop (length t) out)) (ap (record_text fixed) together ∙ text_same)
 
   abbrev Back : Type 0
@@ -158,7 +158,7 @@ module _ (k : Kind) (s table room out : List ℕ) (g : kind_of s ≡ Known k) (a
       let wide : n * part_width ≤ length lent =
       omega (arith, length-append (room_of (parts_of n (loops_of fields))) (drop (n * part_width) room), room_length (parts_of n (loops_of fields)) stored, parts_length n (loops_of fields)) in
       let begun : has_loop filled own ≡ false =
-      begun_not fixed filled own n (own-listed few) s (ap others_in (own-fields few) ∙ ap (λ (m : ℕ). others_in (take m fields)) (sym e) ∙ others_front fields ∙ e) in
+      begun_not fixed filled own n (own_listed few) s (ap others_in (own_fields few) ∙ ap (λ (m : ℕ). others_in (take m fields)) (sym e) ∙ others_front fields ∙ e) in
       let some : eqb n 0 ≡ false = ne_eqb n 0 (λ q. omega (arith, l.some, q)) in
       back few l.few wide (rw (← same_bundle, b, some, begun))
       (loops_back n (loops_of fields) lent 0 (drop (n * part_width) room) l.long l.are sound refl ∙ ap (λ (m : ℕ). drop m fields) e)

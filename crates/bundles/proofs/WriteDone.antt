@@ -23,9 +23,9 @@ use Rattle.parts.specs.declared.answer.Refusal.{Refusal}
 use Rattle.parts.specs.declared.answer.Refusal.TheVariants.{SmallRoom, Broken, TooMany}
 use Rattle.parts.specs.declared.answer.Verdict.{Verdict}
 use Rattle.parts.specs.declared.answer.Verdict.TheVariants.{Refused, Fits}
-use Rattle.parts.proofs.Joined.{table_whole, table-long}
+use Rattle.parts.proofs.Joined.{table_whole, table_long}
 use Rattle.parts.proofs.Together.{named_together, inside_together}
-use Rattle.parts.proofs.Stages.{parts-taken}
+use Rattle.parts.proofs.Stages.{parts_taken}
 use Rattle.bundles.specs.Demand2.{write_parts_call, CanWriteParts, PartsWriteExactly}
 use Rattle.bundles.proofs.ReadDone.{never_done}
 
@@ -66,9 +66,9 @@ module _ (fixed table : List ℕ) (count : ℕ) (contents parts : List ℕ) (n :
         split (is_broken fixed table count parts n)
         (λ t. absurd (never_done Broken (rw (le-ltb most_parts n few, le-ltb (length parts) (n * part_width) lent, t) at e))) (λ t. t)
 
-    were-taken : Taken
+    were_taken : Taken
     unfolding is_broken
-    were-taken =
+    were_taken =
         let b = neither (is_misplaced fixed table count n) (are_loops n more) whole in
         record { few = few; lent = lent; placed = b.0; loops = b.1 }
 
@@ -76,9 +76,9 @@ module _ (fixed table : List ℕ) (count : ℕ) (contents parts : List ℕ) (n :
     pub done_can : CanWriteParts fixed table count contents parts n out
     unfolding write_with
     done_can =
-        let t = were-taken in
+        let t = were_taken in
         let a : (write fixed (table_with more table count) (count + length more) (contents_with more contents) out).said.answer ≡ 0 =
-        ap (λ (o : Outcome). o.said.answer) (sym (parts-taken fixed table count contents parts n out t.few t.lent t.placed t.loops)) ∙ e in
+        ap (λ (o : Outcome). o.said.answer) (sym (parts_taken fixed table count contents parts n out t.few t.lent t.placed t.loops)) ∙ e in
         let c = (write_exactly fixed (table_with more table count) (count + length more) (contents_with more contents) out).only_records a in
         let h = table_whole more table count c.listed in
         let named = named_together table contents count more h in
@@ -102,12 +102,12 @@ module _ (fixed table : List ℕ) (count : ℕ) (contents parts : List ℕ) (n :
       let named = named_together table contents count more c.listed in
       let w : CanWrite fixed (table_with more table count) (count + length more) (contents_with more contents) out =
       record {
-        listed = table-long more table count c.listed;
+        listed = table_long more table count c.listed;
         lent = inside_together table contents count more c.listed ∙ c.inside;
         makes = subst (Makes fixed) (sym named) c.makes;
         room = subst (λ (fs : List Optional). length (record_text fixed fs) ≤ length out) (sym named) c.room;
       } in
-      parts-taken fixed table count contents parts n out c.few c.lent c.placed c.are_loops_law
+      parts_taken fixed table count contents parts n out c.few c.lent c.placed c.are_loops_law
       ∙ (write_exactly fixed (table_with more table count) (count + length more) (contents_with more contents) out).all_records w
       ∙ ap (λ (fs : List Optional). outcome (record { answer = 0; place = 0; length = length (record_text fixed fs) }) (record_text fixed fs ++ drop (length (record_text fixed fs)) out)) named
 

@@ -170,18 +170,18 @@ module _ (ls : List ℕ) (i : ℕ) (n : Copies) where
   arrived_number = number_before ls i arrived_at (le_bytes 4 n.0)
 
   module _ (h : line_width * i + line_width ≤ length ls) (a : n.0 < 4294967296) where
-    arrived-in : le_at (put_arrived ls i n) (line_width * i + arrived_at) 4 ≡ n.0
+    arrived_in : le_at (put_arrived ls i n) (line_width * i + arrived_at) 4 ≡ n.0
     unfolding put_arrived put_in le_bytes le_at
-    arrived-in =
+    arrived_in =
         le_in ls (line_width * i + arrived_at) (le_bytes 4 n.0) (omega arith) 0 4 (line_width * i + arrived_at) (omega arith) (omega arith) ∙ le_back 4 n.0 a
 
     -- the line is read back with this A
-    pub arrived-back : line_at (put_arrived ls i n) i
+    pub arrived_back : line_at (put_arrived ls i n) i
         ≡ record { ordered = (line_at ls i).ordered; arrived = n; mark = (line_at ls i).mark; message = (line_at ls i).message; expected = (line_at ls i).expected }
     unfolding line_at
-    arrived-back = λ x. record {
+    arrived_back = λ x. record {
       ordered = copies (arrived_number ordered_at 2 (omega arith) x);
-      arrived = copies (arrived-in x);
+      arrived = copies (arrived_in x);
       mark = ap mark_of arrived_mark x;
       message = ap message_of (arrived_number message_at 2 (omega arith)) x;
       expected = ap expected_of arrived_date x;
@@ -207,9 +207,9 @@ module _ (ls : List ℕ) (i : ℕ) (m : Mark) (n : Message) (date : List ℕ) (w
     report_mark =
         rw (add-zero (line_width * i + mark_at)) at (sets_in ls (line_width * i + mark_at) (report_bytes m n date) 0 room (omega (arith, report_width)))
 
-    pub report-message : message_number n < 65536 → le_at (put_report ls i m n date) (line_width * i + message_at) 2 ≡ message_number n
+    pub report_message : message_number n < 65536 → le_at (put_report ls i m n date) (line_width * i + message_at) 2 ≡ message_number n
     unfolding put_report put_in report_bytes le_at le_bytes
-    report-message a =
+    report_message a =
         le_in ls (line_width * i + mark_at) (report_bytes m n date) room 1 2 (line_width * i + message_at) (omega arith) (omega (arith, report_width))
         ∙ le_back 2 (message_number n) a
 
@@ -227,18 +227,18 @@ module _ (ls : List ℕ) (i : ℕ) (m : Mark) (n : Message) (date : List ℕ) (w
     unfolding put_report
     report_ordered = number_before ls i mark_at (report_bytes m n date) ordered_at 2 (omega arith)
 
-    report-arrived : le_at (put_report ls i m n date) (line_width * i + arrived_at) 4 ≡ le_at ls (line_width * i + arrived_at) 4
+    report_arrived : le_at (put_report ls i m n date) (line_width * i + arrived_at) 4 ≡ le_at ls (line_width * i + arrived_at) 4
     unfolding put_report
-    report-arrived = number_behind ls i mark_at (report_bytes m n date) arrived_at 4 (omega (arith, report_width))
+    report_arrived = number_behind ls i mark_at (report_bytes m n date) arrived_at 4 (omega (arith, report_width))
 
-    pub report-back : message_number n < 65536 → message_of (message_number n) ≡ n
+    pub report_back : message_number n < 65536 → message_of (message_number n) ≡ n
         → line_at (put_report ls i m n date) i ≡ with_report m n (expected_of date) (line_at ls i)
     unfolding line_at with_report
-    report-back a back = λ x. record {
+    report_back a back = λ x. record {
       ordered = copies (report_ordered x);
-      arrived = copies (report-arrived x);
+      arrived = copies (report_arrived x);
       mark = (ap mark_of report_mark ∙ mark_back m) x;
-      message = (ap message_of (report-message a) ∙ back) x;
+      message = (ap message_of (report_message a) ∙ back) x;
       expected = ap expected_of report_date x;
     }
 
@@ -281,13 +281,13 @@ module _ (ls : List ℕ) (i : ℕ) (named : List ℕ) (n : Copies) (h : line_wid
   made_back : n.0 < 65536 → line_at (put_arrived (with_none ls i named n) i (copies 0)) i ≡ new_line n
   unfolding line_at new_line with_report message_number
   made_back a =
-      arrived-back (with_none ls i named n) i (copies 0) none_room (omega arith)
+      arrived_back (with_none ls i named n) i (copies 0) none_room (omega arith)
       ∙ (λ x. record {
-        ordered = (report-back (with_ordered ls i named n) i Unmarked NoReport blank_date refl ordered_room (omega arith) none_back x).ordered;
+        ordered = (report_back (with_ordered ls i named n) i Unmarked NoReport blank_date refl ordered_room (omega arith) none_back x).ordered;
         arrived = copies 0;
-        mark = (report-back (with_ordered ls i named n) i Unmarked NoReport blank_date refl ordered_room (omega arith) none_back x).mark;
-        message = (report-back (with_ordered ls i named n) i Unmarked NoReport blank_date refl ordered_room (omega arith) none_back x).message;
-        expected = (report-back (with_ordered ls i named n) i Unmarked NoReport blank_date refl ordered_room (omega arith) none_back x).expected;
+        mark = (report_back (with_ordered ls i named n) i Unmarked NoReport blank_date refl ordered_room (omega arith) none_back x).mark;
+        message = (report_back (with_ordered ls i named n) i Unmarked NoReport blank_date refl ordered_room (omega arith) none_back x).message;
+        expected = (report_back (with_ordered ls i named n) i Unmarked NoReport blank_date refl ordered_room (omega arith) none_back x).expected;
       })
       ∙ (λ x. record {
         ordered = copies (ordered_back (with_name ls i named) i n name_room a x);
@@ -308,7 +308,7 @@ module _ (ls : List ℕ) (i : ℕ) (named : List ℕ) (n : Copies) (h : line_wid
         arrived_number (with_none ls i named n) i (copies 0) message_at 2 (omega arith),
         arrived_date (with_none ls i named n) i (copies 0),
         report_mark (with_ordered ls i named n) i Unmarked NoReport blank_date refl ordered_room,
-        report-message (with_ordered ls i named n) i Unmarked NoReport blank_date refl ordered_room (omega arith),
+        report_message (with_ordered ls i named n) i Unmarked NoReport blank_date refl ordered_room (omega arith),
         report_date (with_ordered ls i named n) i Unmarked NoReport blank_date refl ordered_room,
       ) refl
 
@@ -319,59 +319,59 @@ module _ (ls : List ℕ) (i : ℕ) (named : List ℕ) (n : Copies) where
   add_length = length-sets ls (line_width * i) (named ++ new_bytes n)
 
   module _ (wide : length named ≡ ordered_at) where
-    line-width : length (named ++ new_bytes n) ≡ line_width
+    line_width_law : length (named ++ new_bytes n) ≡ line_width
     unfolding new_bytes report_bytes le_bytes
-    line-width = rw (length-append named (new_bytes n), wide)
+    line_width_law = rw (length-append named (new_bytes n), wide)
 
     -- no byte of another line changes
-    pub add-bytes : (j : ℕ) → j ≢ i → SameIn line_width j (add_line ls i named n) ls
+    pub add_bytes : (j : ℕ) → j ≢ i → SameIn line_width j (add_line ls i named n) ls
     unfolding add_line
-    add-bytes j ne k m =
-        rw (add-zero (line_width * i)) at (sets_aside ls line_width i 0 (named ++ new_bytes n) (omega (arith, line-width)) j k ne m)
+    add_bytes j ne k m =
+        rw (add-zero (line_width * i)) at (sets_aside ls line_width i 0 (named ++ new_bytes n) (omega (arith, line_width_law)) j k ne m)
 
     -- the line is read back, and its last report is none
     module _ (h : line_width * i + line_width ≤ length ls) where
       pub add_back : n.0 < 65536 → line_at (add_line ls i named n) i ≡ new_line n
       add_back a = rw (← add_line_law ls i named n wide) (made_back ls i named n h a)
 
-      pub add-date : date_at (add_line ls i named n) i ≡ blank_date
-      add-date = rw (← add_line_law ls i named n wide) (made_date ls i named n h)
+      pub add_date : date_at (add_line ls i named n) i ≡ blank_date
+      add_date = rw (← add_line_law ls i named n wide) (made_date ls i named n h)
 
-      pub add-reported : report_sound (get_or (add_line ls i named n) (line_width * i + mark_at) 0) (le_at (add_line ls i named n) (line_width * i + message_at) 2) (date_at (add_line ls i named n) i) ≡ true
-      add-reported = rw (← add_line_law ls i named n wide) (made_reported ls i named n h)
+      pub add_reported : report_sound (get_or (add_line ls i named n) (line_width * i + mark_at) 0) (le_at (add_line ls i named n) (line_width * i + message_at) 2) (date_at (add_line ls i named n) i) ≡ true
+      add_reported = rw (← add_line_law ls i named n wide) (made_reported ls i named n h)
 
     -- and what it is named by
-    pub add-named : line_width * i + line_width ≤ length ls → named_at (add_line ls i named n) i ≡ named
+    pub add_named : line_width * i + line_width ≤ length ls → named_at (add_line ls i named n) i ≡ named
     unfolding named_at add_line
-    add-named h = sets_part ls (line_width * i) named (new_bytes n) ordered_at wide (rw line-width h)
+    add_named h = sets_part ls (line_width * i) named (new_bytes n) ordered_at wide (rw line_width_law h)
 
     -- every other line stays, and what it is named by
     pub add_apart : (j : ℕ) → j ≢ i → line_at (add_line ls i named n) j ≡ line_at ls j
-    add_apart j ne = line_ext (add_line ls i named n) ls j add_length (add-bytes j ne)
+    add_apart j ne = line_ext (add_line ls i named n) ls j add_length (add_bytes j ne)
 
-    pub add-date-apart : (j : ℕ) → j ≢ i → date_at (add_line ls i named n) j ≡ date_at ls j
-    add-date-apart j ne = date_ext (add_line ls i named n) ls j add_length (add-bytes j ne)
+    pub add_date_apart : (j : ℕ) → j ≢ i → date_at (add_line ls i named n) j ≡ date_at ls j
+    add_date_apart j ne = date_ext (add_line ls i named n) ls j add_length (add_bytes j ne)
 
-    pub add-named-apart : (j : ℕ) → j ≢ i → named_at (add_line ls i named n) j ≡ named_at ls j
+    pub add_named_apart : (j : ℕ) → j ≢ i → named_at (add_line ls i named n) j ≡ named_at ls j
     unfolding named_at
-    add-named-apart j ne = front_ext (add_line ls i named n) ls line_width j (add-bytes j ne) ordered_at (omega arith) add_length
+    add_named_apart j ne = front_ext (add_line ls i named n) ls line_width j (add_bytes j ne) ordered_at (omega arith) add_length
 
-    pub add-key-apart : (j : ℕ) → j ≢ i → key_at (add_line ls i named n) j ≡ key_at ls j
-    add-key-apart j ne = key_alike (add_line ls i named n) ls j (add-named-apart j ne)
+    pub add_key_apart : (j : ℕ) → j ≢ i → key_at (add_line ls i named n) j ≡ key_at ls j
+    add_key_apart j ne = key_alike (add_line ls i named n) ls j (add_named_apart j ne)
 
-    pub add-article-apart : (j : ℕ) → j ≢ i → article_at (add_line ls i named n) j ≡ article_at ls j
-    add-article-apart j ne = article_alike (add_line ls i named n) ls j (add-named-apart j ne)
+    pub add_article_apart : (j : ℕ) → j ≢ i → article_at (add_line ls i named n) j ≡ article_at ls j
+    add_article_apart j ne = article_alike (add_line ls i named n) ls j (add_named_apart j ne)
 
 -- its key comes first in what it is named by, then its article
 module _ (ls : List ℕ) (i : ℕ) (key article : List ℕ) (n : Copies) (wide : length key ≡ key_width) (whole : length (key ++ article) ≡ ordered_at) (room : line_width * i + line_width ≤ length ls) where
   pub add_key : key_at (add_line ls i (key ++ article) n) i ≡ key
   add_key =
-      key_named (add_line ls i (key ++ article) n) i ∙ ap (take key_width) (add-named ls i (key ++ article) n whole room) ∙ take_at key article key_width wide
+      key_named (add_line ls i (key ++ article) n) i ∙ ap (take key_width) (add_named ls i (key ++ article) n whole room) ∙ take_at key article key_width wide
 
   pub add_article : article_at (add_line ls i (key ++ article) n) i ≡ article
   add_article =
       article_named (add_line ls i (key ++ article) n) i
-      ∙ ap (slice key_width ordered_at) (add-named ls i (key ++ article) n whole room)
+      ∙ ap (slice key_width ordered_at) (add_named ls i (key ++ article) n whole room)
       ∙ ap (drop key_width) (take_all ordered_at (key ++ article) (omega (arith, whole)))
       ∙ drop_at key article key_width wide
 
@@ -382,20 +382,20 @@ module _ (ss : List ℕ) (i : ℕ) (key : List ℕ) (line : ℕ) (n : Copies) wh
   slip_length = length-sets ss (slip_width * i) (key ++ (le_bytes 2 line ++ le_bytes 2 n.0))
 
   module _ (wide : length key ≡ slip_key_width) where
-    slip-width : length (key ++ (le_bytes 2 line ++ le_bytes 2 n.0)) ≡ slip_width
+    slip_width_law : length (key ++ (le_bytes 2 line ++ le_bytes 2 n.0)) ≡ slip_width
     unfolding le_bytes
-    slip-width = rw (length-append key (le_bytes 2 line ++ le_bytes 2 n.0), wide)
+    slip_width_law = rw (length-append key (le_bytes 2 line ++ le_bytes 2 n.0), wide)
 
     -- no byte of another slip changes
-    slip-bytes : (j : ℕ) → j ≢ i → SameIn slip_width j (add_slip ss i key line n) ss
+    slip_bytes : (j : ℕ) → j ≢ i → SameIn slip_width j (add_slip ss i key line n) ss
     unfolding add_slip
-    slip-bytes j ne k m =
-        rw (add-zero (slip_width * i)) at (sets_aside ss slip_width i 0 (key ++ (le_bytes 2 line ++ le_bytes 2 n.0)) (omega (arith, slip-width)) j k ne m)
+    slip_bytes j ne k m =
+        rw (add-zero (slip_width * i)) at (sets_aside ss slip_width i 0 (key ++ (le_bytes 2 line ++ le_bytes 2 n.0)) (omega (arith, slip_width_law)) j k ne m)
 
     -- the key, the line's index and the quantity are read back
     pub slip_key_law : slip_width * i + slip_width ≤ length ss → slip_key_at (add_slip ss i key line n) i ≡ key
     unfolding slip_key_at add_slip
-    slip_key_law h = sets_part ss (slip_width * i) key (le_bytes 2 line ++ le_bytes 2 n.0) slip_key_width wide (rw slip-width h)
+    slip_key_law h = sets_part ss (slip_width * i) key (le_bytes 2 line ++ le_bytes 2 n.0) slip_key_width wide (rw slip_width_law h)
 
     slip_number_law : slip_width * i + slip_width ≤ length ss → (k w a : ℕ) → a ≡ slip_width * i + slip_key_width + k → k + w ≤ 4
         → le_at (add_slip ss i key line n) a w ≡ le_at (le_bytes 2 line ++ le_bytes 2 n.0) k w
@@ -414,14 +414,14 @@ module _ (ss : List ℕ) (i : ℕ) (key : List ℕ) (line : ℕ) (n : Copies) wh
     slip_copies_law h a = λ x. copies ((slip_number_law h 2 2 (slip_width * i + slip_copies_place) (omega arith) (omega arith) ∙ le_back 2 n.0 a) x)
 
     -- every other slip stays
-    pub slip-key-apart : (j : ℕ) → j ≢ i → slip_key_at (add_slip ss i key line n) j ≡ slip_key_at ss j
+    pub slip_key_apart : (j : ℕ) → j ≢ i → slip_key_at (add_slip ss i key line n) j ≡ slip_key_at ss j
     unfolding slip_key_at
-    slip-key-apart j ne = front_ext (add_slip ss i key line n) ss slip_width j (slip-bytes j ne) slip_key_width (omega arith) slip_length
+    slip_key_apart j ne = front_ext (add_slip ss i key line n) ss slip_width j (slip_bytes j ne) slip_key_width (omega arith) slip_length
 
-    pub slip-line-apart : (j : ℕ) → j ≢ i → slip_line_at (add_slip ss i key line n) j ≡ slip_line_at ss j
+    pub slip_line_apart : (j : ℕ) → j ≢ i → slip_line_at (add_slip ss i key line n) j ≡ slip_line_at ss j
     unfolding slip_line_at
-    slip-line-apart j ne = number_ext (add_slip ss i key line n) ss slip_width j (slip-bytes j ne) slip_key_width 2 (omega arith)
+    slip_line_apart j ne = number_ext (add_slip ss i key line n) ss slip_width j (slip_bytes j ne) slip_key_width 2 (omega arith)
 
-    pub slip-copies-apart : (j : ℕ) → j ≢ i → slip_copies_at (add_slip ss i key line n) j ≡ slip_copies_at ss j
+    pub slip_copies_apart : (j : ℕ) → j ≢ i → slip_copies_at (add_slip ss i key line n) j ≡ slip_copies_at ss j
     unfolding slip_copies_at
-    slip-copies-apart j ne = λ x. copies (number_ext (add_slip ss i key line n) ss slip_width j (slip-bytes j ne) slip_copies_place 2 (omega arith) x)
+    slip_copies_apart j ne = λ x. copies (number_ext (add_slip ss i key line n) ss slip_width j (slip_bytes j ne) slip_copies_place 2 (omega arith) x)

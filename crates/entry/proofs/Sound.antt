@@ -24,7 +24,7 @@ use Rattle.entry.specs.declared.line.Mark.TheVariants.{Unmarked, Held, Dropped}
 use Rattle.entry.specs.declared.report.Message.{Message}
 use Rattle.entry.specs.declared.report.Message.TheVariants.{NoReport}
 use Rattle.entry.specs.declared.line.Line.{Line}
-use Rattle.entry.proofs.Kept.{SameIn, Changed, date_ext, arrived_mark, arrived_number, arrived_date, arrived-back, report_mark, report-message, report_date, report-back, add_length, add-bytes, add_back, add-reported}
+use Rattle.entry.proofs.Kept.{SameIn, Changed, date_ext, arrived_mark, arrived_number, arrived_date, arrived_back, report_mark, report_message, report_date, report_back, add_length, add_bytes, add_back, add_reported}
 
 -- Q and A are within their bounds
 pub record Bounded (l : Line) : Type 0 where
@@ -102,7 +102,7 @@ of_report n e p =
 -- what goes together in the bytes says the one or the other
 report_said : (mark message : ℕ) (date : List ℕ) → report_sound mark message date ≡ true → Said (mark_of mark) (message_of message) date
 unfolding report_sound Said
-report_said mark message date h = split (eqb message no_report) none_said some-said
+report_said mark message date h = split (eqb message no_report) none_said some_said
   where
     none_said : eqb message no_report ≡ true → Said (mark_of mark) (message_of message) date
     none_said e =
@@ -110,8 +110,8 @@ report_said mark message date h = split (eqb message no_report) none_said some-s
         let unmarked = eqb-true mark no_mark (and_left (eqb mark no_mark) (same date blank_date) both) in
         rw (unmarked, eqb-true message no_report e) (unfold message_of in refl, same_true date blank_date (and_right (eqb mark no_mark) (same date blank_date) both))
 
-    some-said : eqb message no_report ≡ false → Said (mark_of mark) (message_of message) date
-    some-said e =
+    some_said : eqb message no_report ≡ false → Said (mark_of mark) (message_of message) date
+    some_said e =
         let marked : within least_mark most_mark mark ≡ true = and_left (within least_mark most_mark mark) _ (rw e at h) in
         let least = leb-true least_mark mark (and_left (leb least_mark mark) (leb mark most_mark) marked) in
         let most = leb-true mark most_mark (and_right (leb least_mark mark) (leb mark most_mark) marked) in
@@ -159,7 +159,7 @@ module _ (ls : List ℕ) (i : ℕ) (h : line_width * i + line_width ≤ length l
   arrived_sound n s a =
       let b = sound_bounded ls i s in
       fits_sound (put_arrived ls i n) i
-      (rw (arrived-back ls i n h (omega arith)) (record { least = b.least; most = b.most; sum = a }))
+      (rw (arrived_back ls i n h (omega arith)) (record { least = b.least; most = b.most; sum = a }))
       (rw (arrived_mark ls i n, arrived_number ls i n message_at 2 (omega arith), arrived_date ls i n) (report_fits_law ls i s))
 
   pub reported_sound : (m : Mark) (n : Message) (date : List ℕ) → length date ≡ day_width → message_number n < 65536 → message_of (message_number n) ≡ n
@@ -168,8 +168,8 @@ module _ (ls : List ℕ) (i : ℕ) (h : line_width * i + line_width ≤ length l
   reported_sound m n date w small back s r =
       let b = sound_bounded ls i s in
       fits_sound (put_report ls i m n date) i
-      (rw (report-back ls i m n date w h small back) (record { least = b.least; most = b.most; sum = b.sum }))
-      (rw (report_mark ls i m n date w h, report-message ls i m n date w h small, report_date ls i m n date w h) r)
+      (rw (report_back ls i m n date w h small back) (record { least = b.least; most = b.most; sum = b.sum }))
+      (rw (report_mark ls i m n date w h, report_message ls i m n date w h small, report_date ls i m n date w h) r)
 
 -- a new line is sound where it is written, and every other line stays as it was
 module _ (ls : List ℕ) (i : ℕ) (named : List ℕ) (n : Copies) (wide : length named ≡ ordered_at) where
@@ -177,7 +177,7 @@ module _ (ls : List ℕ) (i : ℕ) (named : List ℕ) (n : Copies) (wide : lengt
   unfolding new_line
   add_sound h a b =
       fits_sound (add_line ls i named n) i (rw (add_back ls i named n wide h (omega arith)) (record { least = a; most = b; sum = omega arith }))
-      (add-reported ls i named n wide h)
+      (add_reported ls i named n wide h)
 
   pub add_sound_apart : (j : ℕ) → j ≢ i → line_sound (add_line ls i named n) j ≡ line_sound ls j
-  add_sound_apart j ne = sound_ext (add_line ls i named n) ls j (add_length ls i named n) (add-bytes ls i named n wide j ne)
+  add_sound_apart j ne = sound_ext (add_line ls i named n) ls j (add_length ls i named n) (add_bytes ls i named n wide j ne)

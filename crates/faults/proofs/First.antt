@@ -67,31 +67,31 @@ module _ (s : List ℕ) (at : ℕ) where
     prices = ap first_fault (loop_is s at) ∙ fault_next _ _ t
 
     -- or in the net price
-    pub bad-net : net < 3 → first_fault (lent_loop s at) ≡ 1 + net
-    bad-net h =
+    pub bad_net : net < 3 → first_fault (lent_loop s at) ≡ 1 + net
+    bad_net h =
         let e = prices in
         let k = fault_in (price_loop (lent_price s (at + net_at))) (price_loop (lent_price s (at + list_at)) ++ article_loop s at) h in
         omega arith
 
     module _ (n : 3 ≤ net) where
       -- or behind the net price
-      list-price : first_fault (lent_loop s at) ≡ 4 + first_fault (price_loop (lent_price s (at + list_at)) ++ article_loop s at)
-      list-price =
+      list_price : first_fault (lent_loop s at) ≡ 4 + first_fault (price_loop (lent_price s (at + list_at)) ++ article_loop s at)
+      list_price =
           let e = prices in
           let k = fault_past (price_loop (lent_price s (at + net_at))) (price_loop (lent_price s (at + list_at)) ++ article_loop s at) n in
           omega arith
 
       -- or in the list price
-      pub bad-list : list < 3 → first_fault (lent_loop s at) ≡ 4 + list
-      bad-list h =
-          let e = list-price in
+      pub bad_list : list < 3 → first_fault (lent_loop s at) ≡ 4 + list
+      bad_list h =
+          let e = list_price in
           let k = fault_in (price_loop (lent_price s (at + list_at))) (article_loop s at) h in
           omega arith
 
       -- or behind both
       pub behind : 3 ≤ list → (k : ℕ) → first_fault (article_loop s at) ≡ k → first_fault (lent_loop s at) ≡ 7 + k
       behind l k q =
-          let e = list-price in
+          let e = list_price in
           let p = fault_past (price_loop (lent_price s (at + list_at))) (article_loop s at) l in
           omega arith
 

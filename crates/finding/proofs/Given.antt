@@ -33,19 +33,19 @@ module _ (l : List (Bor (List ℕ))) (h : are_wide key_widths (map (λ x. x.now)
 
   -- a line has the key just where the fields stand there
   module _ (lines : List ℕ) (i : ℕ) where
-    pub given-key : line_width * i + line_width ≤ length lines
+    pub given_key : line_width * i + line_width ≤ length lines
         → key_is lines (joined (map (λ x. x.now) l)) i
         ≡ party_at lines (line_width * i) (field_of l 0) (field_of l 1)
         && (party_at lines (line_width * i + 12) (field_of l 2) (field_of l 3) && same (slice (line_width * i + 24) (line_width * i + 24 + 10) lines) (field_of l 4))
-    given-key room =
+    given_key room =
         ap (λ (fs : List (List ℕ)). key_is lines (joined fs) i) given_five ∙ key_fields_law lines i _ _ _ _ _ room given_wide
 
     -- and not where eight bytes of a field are others there
-    pub field-other : (f from x y : ℕ) → f < 5 → from + 8 ≤ get_or key_widths f 0 → before key_widths f + from + 8 ≤ key_width → x < 256 ^ 8 → y < 256 ^ 8 → (x ≡ y → ⊥)
+    pub field_other : (f from x y : ℕ) → f < 5 → from + 8 ≤ get_or key_widths f 0 → before key_widths f + from + 8 ≤ key_width → x < 256 ^ 8 → y < 256 ^ 8 → (x ≡ y → ⊥)
         → le_bytes 8 x ≡ slice (line_width * i + (before key_widths f + from)) (line_width * i + (before key_widths f + from) + 8) lines → le_bytes 8 y ≡ slice from (from + 8) (field_of l f)
         → key_is lines (joined (map (λ x. x.now) l)) i ≡ false
     unfolding key_is key_at
-    field-other f from x y few room inside k m d e g =
+    field_other f from x y few room inside k m d e g =
         let place : ℕ = before key_widths f + from in
         let end : before key_widths f + (from + 8) ≡ place + 8 = omega arith in
         let stands : slice from (from + 8) (field_of l f) ≡ slice place (place + 8) (joined (map (λ x. x.now) l)) =

@@ -35,19 +35,19 @@ module _ (k : Kind) (s roster : List ℕ) (b : Lent) where
   fit_nothing e = rw e
 
   module _ (e : nothing_to_book k s ≡ false) where
-    pub fit-copies : no_copies k s ≡ true → fit_judged k s roster b ≡ Refuse NoCopies
+    pub fit_copies : no_copies k s ≡ true → fit_judged k s roster b ≡ Refuse NoCopies
     unfolding fit_judged
-    fit-copies f = rw (e, f)
+    fit_copies f = rw (e, f)
 
     module _ (f : no_copies k s ≡ false) where
-      pub fit-reference : no_reference k s ≡ true → fit_judged k s roster b ≡ Refuse NoReference
+      pub fit_reference : no_reference k s ≡ true → fit_judged k s roster b ≡ Refuse NoReference
       unfolding fit_judged
-      fit-reference g = rw (e, f, g)
+      fit_reference g = rw (e, f, g)
 
       module _ (g : no_reference k s ≡ false) where
-        pub fit-off : standing roster (school_in k s) ≡ Off → fit_judged k s roster b ≡ Refuse NotOnRoster
+        pub fit_off : standing roster (school_in k s) ≡ Off → fit_judged k s roster b ≡ Refuse NotOnRoster
         unfolding fit_judged on_roster
-        fit-off h = rw (e, f, g, h)
+        fit_off h = rw (e, f, g, h)
 
         pub fit_on : (ceiling : ℕ) → standing roster (school_in k s) ≡ On ceiling → fit_judged k s roster b ≡ book_judged k s ceiling b
         unfolding fit_judged on_roster
@@ -57,58 +57,58 @@ module _ (k : Kind) (s roster : List ℕ) (b : Lent) where
 module _ (s roster : List ℕ) (b : Lent) where
   pub order_none : (copies_in Order s).0 ≡ 0 → fit_judged Order s roster b ≡ Refuse NoCopies
   unfolding nothing_to_book no_copies
-  order_none e = fit-copies Order s roster b refl (eq-eqb _ _ e)
+  order_none e = fit_copies Order s roster b refl (eq-eqb _ _ e)
 
   module _ (some : (copies_in Order s).0 ≡ 0 → ⊥) where
-    pub order-unnamed : no_reference Order s ≡ true → fit_judged Order s roster b ≡ Refuse NoReference
+    pub order_unnamed : no_reference Order s ≡ true → fit_judged Order s roster b ≡ Refuse NoReference
     unfolding nothing_to_book no_copies
-    order-unnamed g = fit-reference Order s roster b refl (ne_eqb _ _ some) g
+    order_unnamed g = fit_reference Order s roster b refl (ne_eqb _ _ some) g
 
     module _ (g : no_reference Order s ≡ false) where
-      pub order-off : standing roster (school_in Order s) ≡ Off → fit_judged Order s roster b ≡ Refuse NotOnRoster
+      pub order_off : standing roster (school_in Order s) ≡ Off → fit_judged Order s roster b ≡ Refuse NotOnRoster
       unfolding nothing_to_book no_copies
-      order-off h = fit-off Order s roster b refl (ne_eqb _ _ some) g h
+      order_off h = fit_off Order s roster b refl (ne_eqb _ _ some) g h
 
-      pub order-on : (ceiling : ℕ) → standing roster (school_in Order s) ≡ On ceiling
+      pub order_on : (ceiling : ℕ) → standing roster (school_in Order s) ≡ On ceiling
           → fit_judged Order s roster b ≡ order_judged b (school_in Order s) (copies_in Order s) ceiling (find_line b (line_key Order s))
       unfolding nothing_to_book no_copies book_judged
-      order-on ceiling h = fit_on Order s roster b refl (ne_eqb _ _ some) g ceiling h
+      order_on ceiling h = fit_on Order s roster b refl (ne_eqb _ _ some) g ceiling h
 
 -- a delivery: 13, 11, 12, 24, then the book
 module _ (s roster : List ℕ) (b : Lent) (some : nothing_to_book Goods s ≡ false) where
   pub goods_none : (copies_in Goods s).0 ≡ 0 → fit_judged Goods s roster b ≡ Refuse NoCopies
   unfolding no_copies
-  goods_none e = fit-copies Goods s roster b some (eq-eqb _ _ e)
+  goods_none e = fit_copies Goods s roster b some (eq-eqb _ _ e)
 
   module _ (copies : (copies_in Goods s).0 ≡ 0 → ⊥) where
-    pub goods-unnamed : no_reference Goods s ≡ true → fit_judged Goods s roster b ≡ Refuse NoReference
+    pub goods_unnamed : no_reference Goods s ≡ true → fit_judged Goods s roster b ≡ Refuse NoReference
     unfolding no_copies
-    goods-unnamed g = fit-reference Goods s roster b some (ne_eqb _ _ copies) g
+    goods_unnamed g = fit_reference Goods s roster b some (ne_eqb _ _ copies) g
 
     module _ (g : no_reference Goods s ≡ false) where
-      pub goods-off : standing roster (school_in Goods s) ≡ Off → fit_judged Goods s roster b ≡ Refuse NotOnRoster
+      pub goods_off : standing roster (school_in Goods s) ≡ Off → fit_judged Goods s roster b ≡ Refuse NotOnRoster
       unfolding no_copies
-      goods-off h = fit-off Goods s roster b some (ne_eqb _ _ copies) g h
+      goods_off h = fit_off Goods s roster b some (ne_eqb _ _ copies) g h
 
-      pub goods-on : (ceiling : ℕ) → standing roster (school_in Goods s) ≡ On ceiling
+      pub goods_on : (ceiling : ℕ) → standing roster (school_in Goods s) ≡ On ceiling
           → fit_judged Goods s roster b ≡ delivery_judged b (line_key Goods s) (copies_in Goods s) (find_slip b (slip_key s))
       unfolding no_copies book_judged
-      goods-on ceiling h = fit_on Goods s roster b some (ne_eqb _ _ copies) g ceiling h
+      goods_on ceiling h = fit_on Goods s roster b some (ne_eqb _ _ copies) g ceiling h
 
 -- a report: 12, 24, then the book
 module _ (s roster : List ℕ) (b : Lent) where
   pub report_unnamed : no_reference Report s ≡ true → fit_judged Report s roster b ≡ Refuse NoReference
   unfolding nothing_to_book no_copies
-  report_unnamed g = fit-reference Report s roster b refl refl g
+  report_unnamed g = fit_reference Report s roster b refl refl g
 
   module _ (g : no_reference Report s ≡ false) where
-    pub report-off : standing roster (school_in Report s) ≡ Off → fit_judged Report s roster b ≡ Refuse NotOnRoster
+    pub report_off : standing roster (school_in Report s) ≡ Off → fit_judged Report s roster b ≡ Refuse NotOnRoster
     unfolding nothing_to_book no_copies
-    report-off h = fit-off Report s roster b refl refl g h
+    report_off h = fit_off Report s roster b refl refl g h
 
-    pub report-on : (ceiling : ℕ) → standing roster (school_in Report s) ≡ On ceiling → fit_judged Report s roster b ≡ report_judged (find_line b (line_key Report s))
+    pub report_on_law : (ceiling : ℕ) → standing roster (school_in Report s) ≡ On ceiling → fit_judged Report s roster b ≡ report_judged (find_line b (line_key Report s))
     unfolding nothing_to_book no_copies book_judged
-    report-on ceiling h = fit_on Report s roster b refl refl g ceiling h
+    report_on_law ceiling h = fit_on Report s roster b refl refl g ceiling h
 
 -- 14, then the ceiling and the room
 module _ (b : Lent) (school : List ℕ) (n : Copies) (ceiling : ℕ) (key : List ℕ) where
@@ -127,13 +127,13 @@ module _ (b : Lent) (key : List ℕ) (n : Copies) (slip : List ℕ) where
   slip_again j f = rw f
 
   module _ (f : find_slip b slip ≡ Nothing) where
-    pub slip-unknown : find_line b key ≡ Nothing → delivery_judged b key n (find_slip b slip) ≡ Refuse NoLine
+    pub slip_unknown : find_line b key ≡ Nothing → delivery_judged b key n (find_slip b slip) ≡ Refuse NoLine
     unfolding delivery_judged goods_judged
-    slip-unknown l = rw (f, l)
+    slip_unknown l = rw (f, l)
 
-    pub slip-arrives : (i : ℕ) → find_line b key ≡ At i → delivery_judged b key n (find_slip b slip) ≡ arrival_judged b n i
+    pub slip_arrives : (i : ℕ) → find_line b key ≡ At i → delivery_judged b key n (find_slip b slip) ≡ arrival_judged b n i
     unfolding delivery_judged goods_judged
-    slip-arrives i l = rw (f, l)
+    slip_arrives i l = rw (f, l)
 
 -- 16
 module _ (b : Lent) (key : List ℕ) where

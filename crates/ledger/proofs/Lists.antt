@@ -99,17 +99,17 @@ module _ {A : Type 0} where
   -- where all that q passes is kept
   module _ (p q : A → Bool) (inside : (a : A) → p a ≡ false → q a ≡ false) where
     -- the first match is that among what is kept
-    pub first-keep : (l : List A) → first q (keep p l) ≡ first q l
+    pub first_keep : (l : List A) → first q (keep p l) ≡ first q l
     unfolding first keep
-    first-keep [] = refl
-    first-keep (a ∷ l) = let ih = first-keep l in split (p a) (λ e. cc) (λ e. cc (inside a e))
+    first_keep [] = refl
+    first_keep (a ∷ l) = let ih = first_keep l in split (p a) (λ e. cc) (λ e. cc (inside a e))
 
     -- a change of the first match changes what is kept
-    pub change-keep : (f : A → A) → ((a : A) → p (f a) ≡ p a) → (l : List A) → keep p (change q f l) ≡ change q f (keep p l)
+    pub change_keep : (f : A → A) → ((a : A) → p (f a) ≡ p a) → (l : List A) → keep p (change q f l) ≡ change q f (keep p l)
     unfolding change keep
-    change-keep f g [] = refl
-    change-keep f g (a ∷ l) =
-        let ih = change-keep f g l in
+    change_keep f g [] = refl
+    change_keep f g (a ∷ l) =
+        let ih = change_keep f g l in
         split (p a) (λ e. split (q a) (λ i. cc (g a)) (λ i. cc)) (λ e. cc (inside a e))
 
   -- a change of what is not kept leaves what is kept

@@ -41,25 +41,25 @@ module _ {A : Type 0} where
     each_kept p [] h = tt
     each_kept p (a ∷ l) h = let ih = each_kept p l h.1 in split (p a) (λ e. rw e (h.0, ih)) (λ e. rw e ih)
 
-    pub keep-each : (p q : A → Bool) → ((a : A) → P a → p a ≡ q a) → (l : List A) → Each P l → keep p l ≡ keep q l
+    pub keep_each : (p q : A → Bool) → ((a : A) → P a → p a ≡ q a) → (l : List A) → Each P l → keep p l ≡ keep q l
     unfolding keep
-    keep-each p q s [] h = refl
-    keep-each p q s (a ∷ l) h =
-        let ih = keep-each p q s l h.1 in
+    keep_each p q s [] h = refl
+    keep_each p q s (a ∷ l) h =
+        let ih = keep_each p q s l h.1 in
         rw (s a h.0) (split (q a) (λ e. rw e (ap (λ (x : List A). a ∷ x) ih)) (λ e. rw e ih))
 
-    pub total-each : (f g : A → ℕ) → ((a : A) → P a → f a ≡ g a) → (l : List A) → Each P l → total f l ≡ total g l
+    pub total_each : (f g : A → ℕ) → ((a : A) → P a → f a ≡ g a) → (l : List A) → Each P l → total f l ≡ total g l
     unfolding total
-    total-each f g s [] h = refl
-    total-each f g s (a ∷ l) h = omega (arith, s a h.0, total-each f g s l h.1)
+    total_each f g s [] h = refl
+    total_each f g s (a ∷ l) h = omega (arith, s a h.0, total_each f g s l h.1)
 
     -- of what they are mapped to
-    pub keep-mapped : {B : Type 0} (f : A → B) (q : B → Bool) (p : A → Bool) → ((a : A) → P a → q (f a) ≡ p a) → (l : List A) → Each P l
+    pub keep_mapped : {B : Type 0} (f : A → B) (q : B → Bool) (p : A → Bool) → ((a : A) → P a → q (f a) ≡ p a) → (l : List A) → Each P l
         → keep q (map f l) ≡ map f (keep p l)
     unfolding keep
-    keep-mapped f q p s [] h = refl
-    keep-mapped {B = B} f q p s (a ∷ l) h =
-        let ih = keep-mapped f q p s l h.1 in
+    keep_mapped f q p s [] h = refl
+    keep_mapped {B = B} f q p s (a ∷ l) h =
+        let ih = keep_mapped f q p s l h.1 in
         rw (s a h.0) (split (p a) (λ e. rw e (ap (λ (x : List B). f a ∷ x) ih)) (λ e. rw e ih))
 
 -- a test that no entry passes keeps nothing

@@ -14,7 +14,7 @@ use Rattle.ledger.specs.Lists.{keep, given, found}
 use Rattle.ledger.specs.Book.{Key, school_of, of_school, Report, Line, Slip, Book, Rooms, still_open}
 use Rattle.ledger.specs.Booking.{Fit, order, goods, report, line_at, slip_at, done, open_of, tests, judge, new_line, arrive, tell, change_line, enter}
 use Rattle.ledger.specs.History.{key_of, lines_of, part}
-use Rattle.ledger.proofs.Lists.{not_found, keep_in, keep_out, keep_room, kept_most, first-keep, change-keep, change_apart, first_none}
+use Rattle.ledger.proofs.Lists.{not_found, keep_in, keep_out, keep_room, kept_most, first_keep, change_keep, change_apart, first_none}
 use Rattle.ledger.proofs.Tests.{none_holds, all_passed}
 
 -- a delivery keeps its line's key
@@ -39,7 +39,7 @@ module _ (p : Key → Bool) where
   -- a key of the part has its line there
   pub line_part : (k : Key) (ls : List Line) → p k ≡ true → line_at k (lines_of p ls) ≡ line_at k ls
   unfolding line_at lines_of
-  line_part k ls h = first-keep _ _ (λ l. apart k h l.key) ls
+  line_part k ls h = first_keep _ _ (λ l. apart k h l.key) ls
 
   -- a slip that is not booked is not in the part
   slip_part : (s : Key) (ts : List Slip) → found (slip_at s ts) ≡ false → slip_at s (keep (λ t. p t.line) ts) ≡ none
@@ -59,7 +59,7 @@ module _ (p : Key → Bool) where
   change_in : (k : Key) (f : Line → Line) → ((l : Line) → (f l).key ≡ l.key) → (ls : List Line) → p k ≡ true
       → lines_of p (change_line k f ls) ≡ change_line k f (lines_of p ls)
   unfolding change_line lines_of
-  change_in k f g ls h = change-keep _ _ (λ l. apart k h l.key) f (λ l. ap p (g l)) ls
+  change_in k f g ls h = change_keep _ _ (λ l. apart k h l.key) f (λ l. ap p (g l)) ls
 
   -- a change of another line leaves the part
   change_out : (k : Key) (f : Line → Line) → ((l : Line) → (f l).key ≡ l.key) → (ls : List Line) → p k ≡ false

@@ -38,7 +38,7 @@ use Rattle.book.specs.Booking.{refused_number, line_key, slip_key, school_in, co
 use Rattle.book.specs.declared.answer.Verdict.{Verdict}
 use Rattle.book.specs.declared.answer.Verdict.TheVariants.{Refuse, Fits}
 use Rattle.book.proofs.Fields.{order_copies}
-use Rattle.book.proofs.Opens.{open-below}
+use Rattle.book.proofs.Opens.{open_below}
 use Rattle.naming.proofs.Named.{order_school_is, goods_school_is, report_school_is}
 use Rattle.own.specs.Own.{parties_end, account_by, own_entry, own_roster, book_own, NeverInTheWay}
 
@@ -150,7 +150,7 @@ module _ (b : Lent) where
   order_kept : (s : List ℕ) (n : ℕ) → sound b ≡ true → Fitting Order s n → open_copies b (school_in Order s) + (copies_in Order s).0 ≤ highest_ceiling
   unfolding open_copies used_lines
   order_kept s n h f =
-      omega (arith, open-below b.lines b.slips b.used (school_in Order s) {r = open_copies b (school_in Order s)} h refl, order_copies s n f)
+      omega (arith, open_below b.lines b.slips b.used (school_in Order s) {r = open_copies b (school_in Order s)} h refl, order_copies s n f)
 
   -- each kind, under the highest ceiling
   book_below : (k : Kind) (s : List ℕ) (n : ℕ) → sound b ≡ true → Fitting k s n → Below (book_judged k s highest_ceiling b)
@@ -194,15 +194,15 @@ settled_below k s b (Fits i) p = omega arith
 answer_below : (s : List ℕ) (b : Lent) → (book_own s b).said.answer < 24
 unfolding book_own book refused_as refused_number
 answer_below s b =
-    rw (own_sound s) (split (sound b) (λ h. rw h (at-reading h (judged s) refl)) (λ h. rw h (omega arith)))
+    rw (own_sound s) (split (sound b) (λ h. rw h (at_reading h (judged s) refl)) (λ h. rw h (omega arith)))
   where
-    at-kind : sound b ≡ true → (n : ℕ) → judged s ≡ ReadFits n → (k : Kinded) → kind_of s ≡ k → (book_kind k s (own_roster s) b).said.answer < 24
-    at-kind h n r Unknown g = unfold book_kind refused_as refused_number in omega arith
-    at-kind h n r (Known k) g = unfold book_kind book_as in settled_below k s b _ (own_below s b n h r k g)
+    at_kind : sound b ≡ true → (n : ℕ) → judged s ≡ ReadFits n → (k : Kinded) → kind_of s ≡ k → (book_kind k s (own_roster s) b).said.answer < 24
+    at_kind h n r Unknown g = unfold book_kind refused_as refused_number in omega arith
+    at_kind h n r (Known k) g = unfold book_kind book_as in settled_below k s b _ (own_below s b n h r k g)
 
-    at-reading : sound b ≡ true → (v : Reading) → judged s ≡ v → (book_read v s (own_roster s) b).said.answer < 24
-    at-reading h (ReadRefused x) r = unfold book_read refused_as refused_number in read_below x
-    at-reading h (ReadFits n) r = unfold book_read in at-kind h n r (kind_of s) refl
+    at_reading : sound b ≡ true → (v : Reading) → judged s ≡ v → (book_read v s (own_roster s) b).said.answer < 24
+    at_reading h (ReadRefused x) r = unfold book_read refused_as refused_number in read_below x
+    at_reading h (ReadFits n) r = unfold book_read in at_kind h n r (kind_of s) refl
 
 pub never_in_the_way : NeverInTheWay
 never_in_the_way s b =

@@ -19,14 +19,14 @@ use Rattle.writing.specs.declared.answer.Refusal.{Refusal}
 use Rattle.writing.specs.declared.answer.Refusal.TheVariants.{TooManyFields, SmallTable, Content}
 use Rattle.writing.specs.declared.answer.Verdict.{Verdict}
 use Rattle.writing.specs.declared.answer.Verdict.TheVariants.{Refused, Fits}
-use Rattle.writing.proofs.Stages.{many_refused, table-refused, fields-refused, fields_fit, write_refused, write_fits}
+use Rattle.writing.proofs.Stages.{many_refused, table_refused, fields_refused, fields_fit, write_refused, write_fits}
 use Rattle.writing.proofs.Fitting.{fitting, fields_inside, fits_inside, fits_stored}
 use Rattle.parts.specs.Loops.{loop_fields, are_loops}
 use Rattle.parts.specs.Fields.{lent_fields}
 use Rattle.parts.specs.Write.{table_with, contents_with, write_with}
 use Rattle.lent_parts.specs.Faults.{first_fault, fields_text}
 use Rattle.packing.specs.Judged.{rest_with, judged_with}
-use Rattle.parts.proofs.Joined.{table_short, table-long, table_whole}
+use Rattle.parts.proofs.Joined.{table_short, table_long, table_whole}
 use Rattle.parts.proofs.Together.{named_together, inside_together}
 use Rattle.parts.proofs.Lent.{lent_long}
 use Rattle.packing.proofs.Stored.{joined_wide}
@@ -44,14 +44,14 @@ module _ (k : Kind) (fixed table : List ℕ) (count : ℕ) (contents room : List
     sum : count + length (lent_fields n room 0) ≤ most_fields
     sum = rw (lent_long n room 0) few
 
-    pub table-small : length table < count * entry_width → rest_with (lent_fields n room 0) k fixed table count contents out ≡ Refused SmallTable
+    pub table_small : length table < count * entry_width → rest_with (lent_fields n room 0) k fixed table count contents out ≡ Refused SmallTable
     unfolding rest_with
-    table-small h = table-refused k fixed _ _ _ out sum (table_short (lent_fields n room 0) table count h)
+    table_small h = table_refused k fixed _ _ _ out sum (table_short (lent_fields n room 0) table count h)
 
     module _ (h : count * entry_width ≤ length table) (loops : are_loops n (lent_fields n room 0) ≡ true) where
       -- the one table is long enough
       whole : (count + length (lent_fields n room 0)) * entry_width ≤ length (table_with (lent_fields n room 0) table count)
-      whole = table-long (lent_fields n room 0) table count h
+      whole = table_long (lent_fields n room 0) table count h
 
       -- what is said of all fields, by what is said of the table's
       said : (u : Verdict) → fields_judged k contents no_member 0 (entries count table) ≡ u
@@ -59,18 +59,18 @@ module _ (k : Kind) (fixed table : List ℕ) (count : ℕ) (contents room : List
           fields_judged k (contents_with more contents) no_member 0 (entries (count + length more) (table_with more table count)) ≡ (u next faulted count more)
       said u a = judged_together k table contents count room n h loops ∙ rw a
 
-      pub first-refused : (r : Refusal) → fields_judged k contents no_member 0 (entries count table) ≡ Refused r
+      pub first_refused : (r : Refusal) → fields_judged k contents no_member 0 (entries count table) ≡ Refused r
           → rest_with (lent_fields n room 0) k fixed table count contents out ≡ Refused r
       unfolding rest_with ◌next◌
-      first-refused r a = fields-refused k fixed _ _ _ out sum whole r (said (Refused r) a)
+      first_refused r a = fields_refused k fixed _ _ _ out sum whole r (said (Refused r) a)
 
       module _ (m : ℕ) (a : fields_judged k contents no_member 0 (entries count table) ≡ Fits m) where
-        pub second-refused : first_fault (lent_fields n room 0) < n * loop_fields
+        pub second_refused : first_fault (lent_fields n room 0) < n * loop_fields
             → rest_with (lent_fields n room 0) k fixed table count contents out ≡ Refused (Content (count + first_fault (lent_fields n room 0)))
         unfolding rest_with ◌next◌ faulted
-        second-refused b =
+        second_refused b =
             let more = lent_fields n room 0 in
-            fields-refused k fixed _ _ _ out sum whole (Content (count + first_fault more))
+            fields_refused k fixed _ _ _ out sum whole (Content (count + first_fault more))
             (said (Fits m) a ∙ rw (lt-ltb (first_fault more) (length more) (rw (lent_long n room 0) b)))
 
         -- then the length, reckoned of the table and of the parts
@@ -127,10 +127,10 @@ module _ (fixed table : List ℕ) (count : ℕ) (contents room : List ℕ) (n : 
         }
 
     -- stored at the front of the output, it is what is to be written
-    pub with-fits : write_with (lent_fields n room 0) fixed table count contents out
+    pub with_fits : write_with (lent_fields n room 0) fixed table count contents out
         ≡ outcome (written_of (Fits m)) (sets out 0 (record_text fixed (optional_of contents (entries count table) ++ lent_fields n room 0)))
     unfolding judged_with write_with
-    with-fits =
+    with_fits =
         let more = lent_fields n room 0 in
         let f = fitting fixed (table_with more table count) (count + length more) (contents_with more contents) out m e in
         let t = table_whole more table count f.1.listed in

@@ -65,8 +65,8 @@ module _ (more : List Optional) (table : List ℕ) (count : ℕ) where
     all_there = omega arith
 
     -- so the one table is long enough
-    pub table-long : (count + length more) * entry_width ≤ length (table_with more table count)
-    table-long = omega (arith, all_long, all_there)
+    pub table_long : (count + length more) * entry_width ≤ length (table_with more table count)
+    table_long = omega (arith, all_long, all_there)
 
     -- and its entries are those of the table, moved, and then those of the others
     pub all_entries : entries (count + length more) (table_with more table count)

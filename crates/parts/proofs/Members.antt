@@ -73,17 +73,17 @@ module _ (contents table : List ℕ) (i : ℕ) (h : i < loop_fields) (e : Entry)
   other_id n = rw (here, ne_eqb _ _ n)
 
   module _ (m : e.id ≡ (get_or loop i no_member).id) where
-    pub not-asked : keeps (get_or loop i no_member).rule [] (content_in contents e) ≡ false
+    pub not_asked : keeps (get_or loop i no_member).rule [] (content_in contents e) ≡ false
         → is_loop (drop i loop) (optional_of contents (entries (loop_fields - i) (drop (i * entry_width) table))) ≡ false
     unfolding is_member optional_in
-    not-asked n = rw (here, eq-eqb _ _ m, n)
+    not_asked n = rw (here, eq-eqb _ _ m, n)
 
     -- or the loop goes on with the next field
-    pub loop-next : keeps (get_or loop i no_member).rule [] (content_in contents e) ≡ true
+    pub loop_next : keeps (get_or loop i no_member).rule [] (content_in contents e) ≡ true
         → is_loop (drop i loop) (optional_of contents (entries (loop_fields - i) (drop (i * entry_width) table)))
         ≡ is_loop (drop (i + 1) loop) (optional_of contents (entries (loop_fields - (i + 1)) (drop ((i + 1) * entry_width) table)))
     unfolding is_member optional_in
-    loop-next a = rw (here, eq-eqb _ _ m, a)
+    loop_next a = rw (here, eq-eqb _ _ m, a)
 
 -- with no member left it is whole
 pub loop_end : (fs : List Optional) (i : ℕ) → i ≡ loop_fields → is_loop (drop i loop) fs ≡ true

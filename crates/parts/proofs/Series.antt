@@ -10,7 +10,7 @@ use Rattle.record.specs.Fields.{Optional}
 use Rattle.record.specs.Read.{entry_width}
 use Rattle.writing.specs.Widths.{all_inside}
 use Rattle.writing.specs.Write.{entries, optional_of}
-use Rattle.writing.proofs.Halves.{fields-take, fields-drop, inside_take, inside-drop}
+use Rattle.writing.proofs.Halves.{fields_take, fields_drop, inside_take, inside_drop}
 use Rattle.parts.specs.Loops.{loop, loop_fields, is_loop, are_loops}
 
 -- what is left of a table from a place on, as the code takes it
@@ -35,19 +35,19 @@ module _ (contents table : List ℕ) (n j first : ℕ) (h : j < n) where
 
   -- the loop with the index, and those after it
   pub this_loop : take loop_fields (fields_left contents n j first table) ≡ optional_of contents (entries loop_fields (left n j first table))
-  this_loop = rw more (fields-take contents loop_fields ((n - (j + 1)) * loop_fields) (left n j first table))
+  this_loop = rw more (fields_take contents loop_fields ((n - (j + 1)) * loop_fields) (left n j first table))
 
   pub next_loops : drop loop_fields (fields_left contents n j first table) ≡ fields_left contents n (j + 1) first table
   next_loops =
-      rw more (fields-drop contents loop_fields ((n - (j + 1)) * loop_fields) (left n j first table)
+      rw more (fields_drop contents loop_fields ((n - (j + 1)) * loop_fields) (left n j first table)
       ∙ ap (λ (t : List ℕ). optional_of contents (entries ((n - (j + 1)) * loop_fields) t)) further)
 
   module _ (i : all_inside contents (entries ((n - j) * loop_fields) (left n j first table)) ≡ true) where
-    pub this-inside : all_inside contents (entries loop_fields (left n j first table)) ≡ true
-    this-inside = inside_take contents loop_fields ((n - (j + 1)) * loop_fields) (left n j first table) (rw more at i)
+    pub this_inside : all_inside contents (entries loop_fields (left n j first table)) ≡ true
+    this_inside = inside_take contents loop_fields ((n - (j + 1)) * loop_fields) (left n j first table) (rw more at i)
 
-    pub next-inside : all_inside contents (entries ((n - (j + 1)) * loop_fields) (left n (j + 1) first table)) ≡ true
-    next-inside = rw (← further) (inside-drop contents loop_fields ((n - (j + 1)) * loop_fields) (left n j first table) (rw more at i))
+    pub next_inside : all_inside contents (entries ((n - (j + 1)) * loop_fields) (left n (j + 1) first table)) ≡ true
+    next_inside = rw (← further) (inside_drop contents loop_fields ((n - (j + 1)) * loop_fields) (left n j first table) (rw more at i))
 
   areas : n - j ≡ suc (n - (j + 1))
   areas = omega arith

@@ -32,12 +32,12 @@ module _ (fixed table : List ℕ) (count : ℕ) (contents parts : List ℕ) (n :
       misplaced h = rw (le-ltb most_parts n few, le-ltb (length parts) (n * part_width) lent, h)
 
       module _ (placed : is_misplaced fixed table count n ≡ false) where
-        pub no-loops : are_loops n (lent_fields n parts 0) ≡ false → write_parts fixed table count contents parts n out ≡ outcome (not_written Broken) out
+        pub no_loops : are_loops n (lent_fields n parts 0) ≡ false → write_parts fixed table count contents parts n out ≡ outcome (not_written Broken) out
         unfolding write_parts written_with parts_refused is_broken
-        no-loops h = rw (le-ltb most_parts n few, le-ltb (length parts) (n * part_width) lent, placed, h)
+        no_loops h = rw (le-ltb most_parts n few, le-ltb (length parts) (n * part_width) lent, placed, h)
 
         -- and then the rest over all fields
-        pub parts-taken : are_loops n (lent_fields n parts 0) ≡ true
+        pub parts_taken : are_loops n (lent_fields n parts 0) ≡ true
             → write_parts fixed table count contents parts n out ≡ write_with (lent_fields n parts 0) fixed table count contents out
         unfolding write_parts written_with parts_refused is_broken
-        parts-taken h = rw (le-ltb most_parts n few, le-ltb (length parts) (n * part_width) lent, placed, h)
+        parts_taken h = rw (le-ltb most_parts n few, le-ltb (length parts) (n * part_width) lent, placed, h)

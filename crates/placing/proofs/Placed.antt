@@ -24,9 +24,9 @@ module _ (b : Lent) (copies ceiling : ℕ) where
     unfolding new_line_judged used_lines line_room
     room_fits u = rw (le-leb _ _ h, lt-ltb _ _ u)
 
-    pub room-full : length b.lines / line_width ≤ get_or b.used 0 0 → new_line_judged b copies ceiling ≡ Refuse LinesUsed
+    pub room_full : length b.lines / line_width ≤ get_or b.used 0 0 → new_line_judged b copies ceiling ≡ Refuse LinesUsed
     unfolding new_line_judged used_lines line_room
-    room-full u = rw (le-leb _ _ h, le-ltb _ _ u)
+    room_full u = rw (le-leb _ _ h, le-ltb _ _ u)
 
 -- 17 or 18, by whether line key and quantity are the same
 module _ (b : Lent) (key : List ℕ) (n : Copies) (j : ℕ) where
@@ -49,6 +49,6 @@ module _ (b : Lent) (n : Copies) (i : ℕ) where
     unfolding arrival_judged used_slips slip_room
     arrival_fits u = rw (le-leb _ _ h, lt-ltb _ _ u)
 
-    pub arrival-full : length b.slips / slip_width ≤ get_or b.used 1 0 → arrival_judged b n i ≡ Refuse SlipsUsed
+    pub arrival_full : length b.slips / slip_width ≤ get_or b.used 1 0 → arrival_judged b n i ≡ Refuse SlipsUsed
     unfolding arrival_judged used_slips slip_room
-    arrival-full u = rw (le-leb _ _ h, le-ltb _ _ u)
+    arrival_full u = rw (le-leb _ _ h, le-ltb _ _ u)

@@ -43,19 +43,19 @@ module _ (s : List ℕ) (from : ℕ) (h : from + price_width ≤ length s) where
 
   -- an amount that can be written is put as its digits
   module _ (k : is_kept 1029 (amount_text (lent_price s from)) ≡ true) where
-    pub digits-most : get_or s (from + digits_at) 0 ≤ most_digits
+    pub digits_most : get_or s (from + digits_at) 0 ≤ most_digits
     unfolding lent_price
-    digits-most = amount_most 1029 (lent_price s from) k
+    digits_most = amount_most 1029 (lent_price s from) k
 
-    pub amount-put : digits_of (get_or s (from + digits_at) 0) (le_at s from amount_width) ≡ amount_text (lent_price s from)
+    pub amount_put : digits_of (get_or s (from + digits_at) 0) (le_at s from amount_width) ≡ amount_text (lent_price s from)
     unfolding lent_price
-    amount-put = sym (amount_kept 1029 (lent_price s from) k)
+    amount_put = sym (amount_kept 1029 (lent_price s from) k)
 
     -- and the three fields are so long
-    pub price-long : length (fields_text (price_loop (lent_price s from))) ≡ 20 + get_or s (from + digits_at) 0
-    price-long =
+    pub price_long : length (fields_text (price_loop (lent_price s from))) ≡ 20 + get_or s (from + digits_at) 0
+    price_long =
         let p = lent_price s from in
-        let d : length (amount_text p) ≡ get_or s (from + digits_at) 0 = rw (← amount-put) (digits_length (get_or s (from + digits_at) 0) (le_at s from amount_width)) in
+        let d : length (amount_text p) ≡ get_or s (from + digits_at) 0 = rw (← amount_put) (digits_length (get_or s (from + digits_at) 0) (le_at s from amount_width)) in
         let q : length p.qualifier ≡ 2 = rw (← qualifier_put) two_long in
         let u : length p.currency ≡ 3 = rw (← currency_put) three_long in
         omega (arith, text_width (price_loop p), d, q, u)

@@ -1,5 +1,5 @@
 -- The typed records by the verdict: the values where a record fits, zeros where it is refused.
-use mathlib.Core.Path.{◌≡◌, ◌∙◌, ap, sym, refl}
+use mathlib.Core.Path.{◌≡◌}
 use mathlib.Core.List.{List}
 use Prim.Native.Nat.{ℕ}
 use Rattle.record.specs.Answers.{checked_of}
@@ -9,26 +9,23 @@ use Rattle.record.specs.declared.answer.Refusal.{Refusal}
 use Rattle.record.specs.declared.answer.Verdict.{Verdict}
 use Rattle.record.specs.declared.answer.Verdict.TheVariants.{Refused, Fits}
 use Rattle.record.specs.declared.answer.Checked.{Checked}
-use Rattle.record.specs.declared.answer.ReadOrder.{ReadOrder}
-use Rattle.record.specs.declared.answer.ReadDelivery.{ReadDelivery}
-use Rattle.record.specs.declared.answer.ReadReport.{ReadReport}
 use Rattle.record.specs.declared.values.Order.{Order}
 use Rattle.record.specs.declared.values.Delivery.{Delivery}
 use Rattle.record.specs.declared.values.Report.{Report}
 
 module _ (s : List ℕ) (v w : Verdict) (same : v ≡ w) (said : Checked) (c : said ≡ checked_of v) where
   module _ (r : Refusal) (e : v ≡ Refused r) where
-    pub no-order-read : (o : Order) → o ≡ no_order → record { checked = said; order = o } ≡ order_from w s
+    pub no_order_read : (o : Order) → o ≡ no_order → record { checked = said; order = o } ≡ order_from w s
     unfolding order_from
-    no-order-read o h = rw (h, c, ← same, e)
+    no_order_read o h = rw (h, c, ← same, e)
 
-    pub no-delivery-read : (d : Delivery) → d ≡ no_delivery → record { checked = said; delivery = d } ≡ delivery_from w s
+    pub no_delivery_read : (d : Delivery) → d ≡ no_delivery → record { checked = said; delivery = d } ≡ delivery_from w s
     unfolding delivery_from
-    no-delivery-read d h = rw (h, c, ← same, e)
+    no_delivery_read d h = rw (h, c, ← same, e)
 
-    pub no-report-read : (m : Report) → m ≡ no_report → record { checked = said; report = m } ≡ report_from w s
+    pub no_report_read : (m : Report) → m ≡ no_report → record { checked = said; report = m } ≡ report_from w s
     unfolding report_from
-    no-report-read m h = rw (h, c, ← same, e)
+    no_report_read m h = rw (h, c, ← same, e)
 
   module _ (n : ℕ) (e : v ≡ Fits n) where
     pub order_read : (o : Order) → o ≡ order_of s → record { checked = said; order = o } ≡ order_from w s

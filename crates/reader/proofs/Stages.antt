@@ -1,9 +1,8 @@
 -- The stages of reading, one after the other, by the tests that the code makes.
-use mathlib.Core.Path.{◌≡◌, ◌∙◌, ap, sym, refl}
-use mathlib.Core.Bool.{Bool, true, false}
-use mathlib.Core.List.{List, [], ◌∷◌, ◌++◌}
+use mathlib.Core.Path.{◌≡◌}
+use mathlib.Core.Bool.{true, false}
+use mathlib.Core.List.{List, ◌++◌}
 use Prim.Native.Nat.{ℕ, ◌+◌, ◌*◌, ◌≤◌, ◌<◌}
-use native.Mathlib.Omega.{arith}
 use borrow.Author.Tests.{eq-eqb, ne_eqb, lt-ltb, le-ltb}
 use lib.ListN.{length, drop}
 use lib.Seq.{slice}
@@ -17,10 +16,9 @@ use Rattle.record.specs.Fields.{head_width, walk, judge, entries_of}
 use Rattle.record.specs.Read.{bytes_judged, fixed_judged, after_walk, optional_judged, kind_judged, judged, entry_width, outcome, optional_start, table_after, check, judged_as}
 use Rattle.record.specs.declared.answer.Refusal.{Refusal}
 use Rattle.record.specs.declared.answer.Refusal.TheVariants.{TooLong, UnknownKind, TooShort, Byte, FixedField, SmallTable}
-use Rattle.record.specs.declared.answer.Verdict.{Verdict}
 use Rattle.record.specs.declared.answer.Verdict.TheVariants.{Refused, Fits}
 use Rattle.record.specs.declared.layout.Kind.{Kind}
-use Rattle.record.specs.declared.layout.Kinded.TheVariants.{Known, Unknown}
+use Rattle.record.specs.declared.layout.Kinded.TheVariants.{Known}
 
 -- 6 to 10, from what the two walks say
 module _ (k : Kind) (p : ℕ) (t : List ℕ) where
@@ -29,18 +27,18 @@ module _ (k : Kind) (p : ℕ) (t : List ℕ) where
   walk_refused r e = rw e
 
   module _ (n : ℕ) (e : walk most_fields 0 p t ≡ Fits n) where
-    pub judge-refused : (r : Refusal) → judge k n no_member p t ≡ Refused r → optional_judged k p t ≡ Refused r
+    pub judge_refused : (r : Refusal) → judge k n no_member p t ≡ Refused r → optional_judged k p t ≡ Refused r
     unfolding optional_judged after_walk ◌then◌
-    judge-refused r g = rw (e, g)
+    judge_refused r g = rw (e, g)
 
     -- with no fields there is nothing to judge
-    pub none-fits : n ≡ 0 → optional_judged k p t ≡ Fits 0
+    pub none_fits : n ≡ 0 → optional_judged k p t ≡ Fits 0
     unfolding optional_judged after_walk judge ◌then◌
-    none-fits z = rw (e, z)
+    none_fits z = rw (e, z)
 
-    pub judge-fits : (m : ℕ) → judge k n no_member p t ≡ Fits m → optional_judged k p t ≡ Fits n
+    pub judge_fits : (m : ℕ) → judge k n no_member p t ≡ Fits m → optional_judged k p t ≡ Fits n
     unfolding optional_judged after_walk ◌then◌
-    judge-fits m g = rw (e, g)
+    judge_fits m g = rw (e, g)
 
 -- 3 to 10, of a known kind
 module _ (k : Kind) (s : List ℕ) where
@@ -49,20 +47,20 @@ module _ (k : Kind) (s : List ℕ) where
   kind_short h = rw (lt-ltb _ _ h)
 
   module _ (h : fixed_width k + head_width ≤ length s) where
-    pub kind-byte : (run (belongs Allowed) s ≡ length s → ⊥) → kind_judged (Known k) s ≡ Refused (Byte (run (belongs Allowed) s))
+    pub kind_byte_law : (run (belongs Allowed) s ≡ length s → ⊥) → kind_judged (Known k) s ≡ Refused (Byte (run (belongs Allowed) s))
     unfolding kind_judged bytes_judged ◌then◌
-    kind-byte g = rw (le-ltb _ _ h, ne_eqb _ _ g)
+    kind_byte_law g = rw (le-ltb _ _ h, ne_eqb _ _ g)
 
     module _ (g : run (belongs Allowed) s ≡ length s) where
-      pub kind-fixed : (first_broken (layout k) s ≡ length (layout k) → ⊥)
+      pub kind_fixed : (first_broken (layout k) s ≡ length (layout k) → ⊥)
           → kind_judged (Known k) s ≡ Refused (FixedField (start_of (layout k) (first_broken (layout k) s)))
       unfolding kind_judged bytes_judged fixed_judged ◌then◌
-      kind-fixed b = rw (le-ltb _ _ h, eq-eqb _ _ g, ne_eqb _ _ b)
+      kind_fixed b = rw (le-ltb _ _ h, eq-eqb _ _ g, ne_eqb _ _ b)
 
-      pub kind-rest : first_broken (layout k) s ≡ length (layout k)
+      pub kind_rest : first_broken (layout k) s ≡ length (layout k)
           → kind_judged (Known k) s ≡ optional_judged k (fixed_width k) (drop (fixed_width k) s)
       unfolding kind_judged bytes_judged fixed_judged ◌then◌
-      kind-rest b = rw (le-ltb _ _ h, eq-eqb _ _ g, eq-eqb _ _ b)
+      kind_rest b = rw (le-ltb _ _ h, eq-eqb _ _ g, eq-eqb _ _ b)
 
 -- 1 and 2
 module _ (s : List ℕ) where
@@ -95,11 +93,11 @@ module _ (s table : List ℕ) where
   small_table h = rw (lt-ltb _ _ h)
 
   module _ (h : most_fields * entry_width ≤ length table) where
-    pub check-refused : (r : Refusal) → judged s ≡ Refused r → check s table ≡ outcome (checked_of (Refused r)) table
+    pub check_refused : (r : Refusal) → judged s ≡ Refused r → check s table ≡ outcome (checked_of (Refused r)) table
     unfolding check table_after
-    check-refused r e = rw (le-ltb _ _ h, e)
+    check_refused r e = rw (le-ltb _ _ h, e)
 
-    pub check-fits : (n : ℕ) → judged s ≡ Fits n
+    pub check_fits : (n : ℕ) → judged s ≡ Fits n
         → check s table ≡ outcome (checked_of (Fits n)) (entries_of n (optional_start (kind_of s)) (drop (optional_start (kind_of s)) s) ++ drop (n * entry_width) table)
     unfolding check table_after
-    check-fits n e = rw (le-ltb _ _ h, e)
+    check_fits n e = rw (le-ltb _ _ h, e)

@@ -167,10 +167,10 @@ module _ (fs : List Field) (i : ℕ) (h : i < length fs) (f : Field) (e : f ≡ 
         rw (field_here, take_from f.size at s, slice_drop f.size (f.size + 2) at s, a, drop-drop f.size at s, q)
 
     -- it breaks its rule: it is found first
-    pub broken-here : keeps f.rule (slice (at + f.size) (at + f.size + 2) s) (slice at (at + f.size) s) ≡ false
+    pub broken_here : keeps f.rule (slice (at + f.size) (at + f.size + 2) s) (slice at (at + f.size) s) ≡ false
         → first_broken (drop i fs) (drop at s) ≡ 0
     unfolding first_broken
-    broken-here q =
+    broken_here q =
         let a : at + (f.size + 2) ≡ at + f.size + 2 = omega arith in
         rw (field_here, take_from f.size at s, slice_drop f.size (f.size + 2) at s, a, drop-drop f.size at s, q)
 

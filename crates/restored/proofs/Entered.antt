@@ -17,7 +17,7 @@ use Rattle.record.specs.declared.layout.Kind.TheVariants.{Report}
 use Rattle.reader.proofs.Fitting.{Fitting}
 use Rattle.entry.specs.Line.{new_line, with_report, with_arrivals}
 use Rattle.entry.specs.Stored.{key_width, ordered_at, slip_width, slip_key_width, most_copies, most_arrived, line_at, put_arrived, put_report, add_line, key_at, key_is, slip_key_at, slip_is, slip_line_at, add_slip}
-use Rattle.entry.proofs.Kept.{Changed, other_line, same_key, arrived_changed, report_changed, add_back, add-named, add_key, add_apart, add-named-apart, add-key-apart, slip_key_law, slip_line, slip_copies_law, slip-key-apart, slip-line-apart, slip-copies-apart}
+use Rattle.entry.proofs.Kept.{Changed, other_line, same_key, arrived_changed, report_changed, add_back, add_named, add_key, add_apart, add_named_apart, add_key_apart, slip_key_law, slip_line, slip_copies_law, slip_key_apart, slip_line_apart, slip_copies_apart}
 use Rattle.book.specs.Lent.{Lent, used_lines, used_slips, line_room, slip_room, find_line, find_slip}
 use Rattle.book.specs.Booking.{slip_fields, mark_in, message_in, date_in}
 use Rattle.book.proofs.Fields.{report_date}
@@ -75,13 +75,13 @@ module _ (b : Lent) (key article : List ℕ) (copies : Copies) (o : Ordered b) (
       let more : used_lines (more_line b names copies) ≡ suc n = lines_after b key article copies k room wide whole least most in
       let slips : used_slips (more_line b names copies) ≡ used_slips b = slips_after b key article copies k room wide whole least most in
       let own : key_at (add_line ls n names copies) n ≡ key = add_key ls n key article copies wide whole fits in
-      let apart : (x : ℕ) → x ≢ n → key_at (add_line ls n names copies) x ≡ key_at ls x = add-key-apart ls n names copies whole in
+      let apart : (x : ℕ) → x ≢ n → key_at (add_line ls n names copies) x ≡ key_at ls x = add_key_apart ls n names copies whole in
       let lined = (sound_so b k.is_sound).slip_names in
       record {
         kept = add_kept b key article copies k room wide whole least most;
         line_rules = λ x h. split (eqb x n)
-            (λ e. let d = eqb-true x n e in rw (d, add-named ls n names copies whole fits) rules)
-            (λ e. let ne = eqb-false x n e in rw (add-named-apart ls n names copies whole x ne) (o.line_rules x (omega (arith, more))));
+            (λ e. let d = eqb-true x n e in rw (d, add_named ls n names copies whole fits) rules)
+            (λ e. let ne = eqb-false x n e in rw (add_named_apart ls n names copies whole x ne) (o.line_rules x (omega (arith, more))));
         line_new = λ e x g h. split (eqb x n)
             (λ t. let d = eqb-true x n t in rw (d, own, apart e (λ q. omega arith)) (line_is_new b key f e (omega arith)))
             (λ t. let ne = eqb-false x n t in rw (apart x ne, apart e (λ q. omega (arith, more))) (o.line_new e x g (omega (arith, more))));
@@ -110,7 +110,7 @@ module _ (ss : List ℕ) (m : ℕ) (key : List ℕ) (i : ℕ) (copies : Copies) 
       sum_same after (booked_on ss x) m 0
       (λ j a c.
       let ne : j ≢ m = λ q. omega arith in
-      rw (slip-line-apart ss m key i copies wide j ne, slip-copies-apart ss m key i copies wide j ne)) in
+      rw (slip_line_apart ss m key i copies wide j ne, slip_copies_apart ss m key i copies wide j ne)) in
       let last : after m ≡ pick (eqb i x) copies.0 0 = rw (slip_line ss m key i copies wide fits low, slip_copies_law ss m key i copies wide fits few) in
       sum_more after m 0 ∙ rw (zero-add m, before, last)
 
@@ -135,7 +135,7 @@ module _ (b : Lent) (key slip : List ℕ) (copies : Copies) (i : ℕ) (o : Order
       let more : used_slips (more_slip c slip i copies) ≡ suc m = one_slip_more c slip i copies k room wide used (omega arith) in
       let low : i < 65536 = omega (arith, sound_so b o.kept.is_sound) in
       let new : slip_key_at (add_slip ss m slip i copies) m ≡ slip = slip_key_law ss m slip i copies wide fits in
-      let apart : (x : ℕ) → x ≢ m → slip_key_at (add_slip ss m slip i copies) x ≡ slip_key_at ss x = slip-key-apart ss m slip i copies wide in
+      let apart : (x : ℕ) → x ≢ m → slip_key_at (add_slip ss m slip i copies) x ≡ slip_key_at ss x = slip_key_apart ss m slip i copies wide in
       record {
         kept = slip_kept_law c slip i copies k room wide used (omega arith);
         line_rules = λ x h. rw (changed.named x) (o.line_rules x (omega (arith, lines)));
@@ -145,12 +145,12 @@ module _ (b : Lent) (key slip : List ℕ) (copies : Copies) (i : ℕ) (o : Order
             (λ e. let ne = eqb-false j m e in rw (apart j ne) (o.slip_rules j (omega (arith, more))));
         slip_copies_law = λ j h. split (eqb j m)
             (λ e. let d = eqb-true j m e in rw (d, slip_copies_law ss m slip i copies wide fits (omega arith), le-leb 1 copies.0 least, le-leb copies.0 most_copies few))
-            (λ e. let ne = eqb-false j m e in rw (slip-copies-apart ss m slip i copies wide j ne) (o.slip_copies_law j (omega (arith, more))));
+            (λ e. let ne = eqb-false j m e in rw (slip_copies_apart ss m slip i copies wide j ne) (o.slip_copies_law j (omega (arith, more))));
         slip_parties = λ j h. split (eqb j m)
             (λ e. let d = eqb-true j m e in rw (d, new, slip_line ss m slip i copies wide fits low, same_key changed i, own) agree)
             (λ e.
             let ne = eqb-false j m e in
-            rw (apart j ne, slip-line-apart ss m slip i copies wide j ne, same_key changed (slip_line_at ss j)) (o.slip_parties j (omega (arith, more))));
+            rw (apart j ne, slip_line_apart ss m slip i copies wide j ne, same_key changed (slip_line_at ss j)) (o.slip_parties j (omega (arith, more))));
         slip_new = λ e j u h. split (eqb j m)
             (λ t. let d = eqb-true j m t in rw (d, new, apart e (λ q. omega arith)) (slip_is_new b slip f e (omega arith)))
             (λ t. let ne = eqb-false j m t in rw (apart j ne, apart e (λ q. omega (arith, more))) (o.slip_new e j u (omega (arith, more))));

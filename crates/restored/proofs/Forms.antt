@@ -27,7 +27,7 @@ use Rattle.save.proofs.Joined.{lines_long, slips_long}
 use Rattle.save.proofs.Views.{entries_same}
 use Rattle.restored.specs.Restored.{Bytes}
 use Rattle.restored.proofs.Cuts.{part_and_rest, bytes_back}
-use Rattle.restored.proofs.Joined.{joined_same, kinded-kind, kinded-body, kinded_cut}
+use Rattle.restored.proofs.Joined.{joined_same, kinded_kind, kinded_body, kinded_cut}
 
 -- the end is five bytes
 end_wide : (n m : ℕ) → length (end_entry n m) ≡ end_width
@@ -98,7 +98,7 @@ module _ (form : Form) (n m : ℕ) (line slip : ℕ → List ℕ) (lineWide : (i
   -- the bodies of lines stand in their entries
   formed_body : (i : ℕ) → i < n → body_in form s i ≡ body i
   unfolding formed line_entries body_in
-  formed_body i a = kinded-body (line_kind form) (line_body_width form) (saved_line_width form) (entry_wide form) n body body_wide rest i a
+  formed_body i a = kinded_body (line_kind form) (line_body_width form) (saved_line_width form) (entry_wide form) n body body_wide rest i a
 
   -- and those of slips
   pub formed_slip : (j : ℕ) → j < m → slip_in s at j ≡ slip j
@@ -106,7 +106,7 @@ module _ (form : Form) (n m : ℕ) (line slip : ℕ → List ℕ) (lineWide : (i
   formed_slip j a =
       rw (add_assoc at (saved_slip_width * j) 1, add_assoc at (saved_slip_width * j) saved_slip_width)
       (part_past (line_entries form line n) rest at line_run (saved_slip_width * j + 1) (saved_slip_width * j + saved_slip_width)
-      ∙ kinded-body slip_kind slip_body_width saved_slip_width refl m slip slipWide (end_entry n m) j a)
+      ∙ kinded_body slip_kind slip_body_width saved_slip_width refl m slip slipWide (end_entry n m) j a)
 
   -- a number of the end
   from_end : (x w : ℕ) → le_at s (at + (saved_slip_width * m + x)) w ≡ le_at (end_entry n m) x w
@@ -134,14 +134,14 @@ module _ (form : Form) (n m : ℕ) (line slip : ℕ → List ℕ) (lineWide : (i
   unfolding all_of_kind formed line_entries
   line_kinds =
       each_place (λ i. eqb (get_or s (0 + saved_line_width form * i) 0) (line_kind form)) n 0
-      (λ i a c. rw (zero-add (saved_line_width form * i)) (eq-eqb _ _ (kinded-kind (line_kind form) (line_body_width form) (saved_line_width form) (entry_wide form) n body body_wide rest i (omega arith))))
+      (λ i a c. rw (zero-add (saved_line_width form * i)) (eq-eqb _ _ (kinded_kind (line_kind form) (line_body_width form) (saved_line_width form) (entry_wide form) n body body_wide rest i (omega arith))))
 
   -- each slip
   slip_kinds : all_of_kind slip_kind saved_slip_width at m s ≡ true
   unfolding all_of_kind formed slip_entries
   slip_kinds =
       each_place (λ j. eqb (get_or s (at + saved_slip_width * j) 0) slip_kind) m 0
-      (λ j a c. eq-eqb _ _ (byte_past (line_entries form line n) rest at line_run (saved_slip_width * j) ∙ kinded-kind slip_kind slip_body_width saved_slip_width refl m slip slipWide (end_entry n m) j (omega arith)))
+      (λ j a c. eq-eqb _ _ (byte_past (line_entries form line n) rest at line_run (saved_slip_width * j) ∙ kinded_kind slip_kind slip_body_width saved_slip_width refl m slip slipWide (end_entry n m) j (omega arith)))
 
   -- the end
   end_kind_law : get_or s (at + saved_slip_width * m) 0 ≡ end_kind
@@ -159,23 +159,23 @@ module _ (form : Form) (n m : ℕ) (line slip : ℕ → List ℕ) (lineWide : (i
   -- lines of which the form says all
   module _ (says : (i : ℕ) → i < n → front_of form (body i) ≡ line i) where
     -- stand in their entries
-    pub formed-line : (i : ℕ) → i < n → line_in form s i ≡ line i
+    pub formed_line : (i : ℕ) → i < n → line_in form s i ≡ line i
     unfolding line_in
-    formed-line i a = ap (front_of form) (formed_body i a) ∙ says i a
+    formed_line i a = ap (front_of form) (formed_body i a) ∙ says i a
 
     -- make a valid save where they and the slips keep the rules
-    pub formed-save : n < 65536 → m < 65536 → entries_kept n m line slip ≡ true → is_save_of form s ≡ true
+    pub formed_save : n < 65536 → m < 65536 → entries_kept n m line slip ≡ true → is_save_of form s ≡ true
     unfolding is_save_of saved_width
-    formed-save h k e =
+    formed_save h k e =
         rw (formed_lines h, formed_slips k, le-leb end_width (length s) (omega (arith, formed_length)), formed_in_form)
-        (entries_same n m (line_in form s) line (slip_in s at) slip formed-line formed_slip ∙ e)
+        (entries_same n m (line_in form s) line (slip_in s at) slip formed_line formed_slip ∙ e)
 
     -- and are moved to any form as they are
-    pub formed-moved : (to : Form) → n < 65536 → moved form to s ≡ formed to n m line slip
+    pub formed_moved : (to : Form) → n < 65536 → moved form to s ≡ formed to n m line slip
     unfolding moved formed
-    formed-moved to h =
+    formed_moved to h =
         rw (formed_lines h)
-        (ap₂ (λ (x y : List ℕ). x ++ y) (lines_formed to n (line_in form s) line formed-line) (drop_at (line_entries form line n) rest at line_run))
+        (ap₂ (λ (x y : List ℕ). x ++ y) (lines_formed to n (line_in form s) line formed_line) (drop_at (line_entries form line n) rest at line_run))
 
 -- what a valid save of a form is
 pub record Valid (form : Form) (s : List ℕ) : Type 0 where

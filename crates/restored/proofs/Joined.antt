@@ -80,15 +80,15 @@ module _ (kind w v : ℕ) (one : v ≡ suc w) (n : ℕ) (body : ℕ → List ℕ
         joined_part (λ k. kind ∷ body k) v rest n 0 k entry_wide a ∙ ap (λ (k : ℕ). kind ∷ body k) (zero-add k)
 
     -- the kind of each, and its body
-    pub kinded-kind : get_or (joined_from (λ k. kind ∷ body k) n 0 ++ rest) (v * k) 0 ≡ kind
-    kinded-kind =
+    pub kinded_kind : get_or (joined_from (λ k. kind ∷ body k) n 0 ++ rest) (v * k) 0 ≡ kind
+    kinded_kind =
         let s : List ℕ = joined_from (λ k. kind ∷ body k) n 0 ++ rest in
         ap (λ (x : ℕ). get_or s x 0) (sym (add-zero (v * k)))
         ∙ sym (byte_within s (v * k) (v * k + v) 0 (omega arith))
         ∙ ap (λ (l : List ℕ). get_or l 0 0) entry_at
 
-    pub kinded-body : slice (v * k + 1) (v * k + v) (joined_from (λ k. kind ∷ body k) n 0 ++ rest) ≡ body k
-    kinded-body =
+    pub kinded_body : slice (v * k + 1) (v * k + v) (joined_from (λ k. kind ∷ body k) n 0 ++ rest) ≡ body k
+    kinded_body =
         let s : List ℕ = joined_from (λ k. kind ∷ body k) n 0 ++ rest in
         sym (part_within s (v * k) (v * k + v) 1 v (omega arith))
         ∙ ap (slice 1 v) entry_at

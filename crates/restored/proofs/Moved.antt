@@ -22,7 +22,7 @@ use Rattle.save.proofs.Views.{arrived_same}
 use Rattle.restored.specs.Restored.{Bytes, saved_bytes}
 use Rattle.restored.proofs.Cuts.{stored_front}
 use Rattle.restored.proofs.Joined.{joined_same}
-use Rattle.restored.proofs.Forms.{Valid, valid_so, moved_formed, valid_formed, formed_length, formed_lines, formed_slips, formed-line, formed_slip, formed-save, formed-moved}
+use Rattle.restored.proofs.Forms.{Valid, valid_so, moved_formed, valid_formed, formed_length, formed_lines, formed_slips, formed_line, formed_slip, formed_save, formed_moved}
 use Rattle.restored.proofs.Taken.{save_taken, lent_taken}
 
 -- a save moved to its own form stays as it is, where the output is large enough
@@ -102,49 +102,49 @@ module _ (from to : Form) (s : List ℕ) (bytes : Bytes s) (valid : is_save_of f
   -- a form that says all of its lines
   module _ (says : (i : ℕ) → i < n → front_of to (take (line_body_width to) (line i)) ≡ line i) where
     -- has a valid save of them
-    pub moved-save : is_save_of to t ≡ true
-    moved-save = ap (is_save_of to) (moved_formed from s bytes valid_here to) ∙ formed-save to n m line slip line_wide slip_wide says few_lines few_slips valid_here.entries
+    pub moved_save : is_save_of to t ≡ true
+    moved_save = ap (is_save_of to) (moved_formed from s bytes valid_here to) ∙ formed_save to n m line slip line_wide slip_wide says few_lines few_slips valid_here.entries
 
     -- in which they stand
-    pub moved-line : (i : ℕ) → i < n → line_in to t i ≡ line i
-    moved-line i a = ap (λ (x : List ℕ). line_in to x i) (moved_formed from s bytes valid_here to) ∙ formed-line to n m line slip line_wide slip_wide says i a
+    pub moved_line : (i : ℕ) → i < n → line_in to t i ≡ line i
+    moved_line i a = ap (λ (x : List ℕ). line_in to x i) (moved_formed from s bytes valid_here to) ∙ formed_line to n m line slip line_wide slip_wide says i a
 
     -- and the slips
-    moved-slip : (j : ℕ) → j < m → slip_in t (slips_at to n) j ≡ slip j
-    moved-slip j a = ap (λ (x : List ℕ). slip_in x (slips_at to n) j) (moved_formed from s bytes valid_here to) ∙ formed_slip to n m line slip line_wide slip_wide j a
+    moved_slip : (j : ℕ) → j < m → slip_in t (slips_at to n) j ≡ slip j
+    moved_slip j a = ap (λ (x : List ℕ). slip_in x (slips_at to n) j) (moved_formed from s bytes valid_here to) ∙ formed_slip to n m line slip line_wide slip_wide j a
 
     -- moved back it is as it was
     moved_back : moved to from t ≡ s
     moved_back =
         ap (moved to from) (moved_formed from s bytes valid_here to)
-        ∙ formed-moved to n m line slip line_wide slip_wide says from few_lines
+        ∙ formed_moved to n m line slip line_wide slip_wide says from few_lines
         ∙ valid_formed from s bytes valid_here
 
     -- and so into an output that is large enough
-    pub move-back : (out : List ℕ) → length s ≤ length out → moved_into to from t out ≡ written (saved_as (length s)) (sets out 0 s)
+    pub move_back : (out : List ℕ) → length s ≤ length out → moved_into to from t out ≡ written (saved_as (length s)) (sets out 0 s)
     unfolding moved_into moved_width saved_width
-    move-back out room = rw (moved_lines, moved_slips, ← valid_here.long, le-leb (length s) (length out) room, moved_back)
+    move_back out room = rw (moved_lines, moved_slips, ← valid_here.long, le-leb (length s) (length out) room, moved_back)
 
     -- each line is loaded as from the first save
-    line-alike : (i : ℕ) → i < n → loaded_line to t n m i ≡ loaded_line from s n m i
+    line_alike : (i : ℕ) → i < n → loaded_line to t n m i ≡ loaded_line from s n m i
     unfolding loaded_line line_from
-    line-alike i a = rw (moved-line i a, arrived_same m (slip_in t (slips_at to n)) slip moved-slip i)
+    line_alike i a = rw (moved_line i a, arrived_same m (slip_in t (slips_at to n)) slip moved_slip i)
 
     -- so the book is the same
     lent_alike : (b : Lent) → lent_loaded to t n m b ≡ lent_loaded from s n m b
     unfolding lent_loaded
     lent_alike b = λ i. record {
-      lines = sets b.lines 0 (joined_same (loaded_line to t n m) (loaded_line from s n m) n 0 (λ k a c. line-alike k (omega arith)) i);
-      slips = sets b.slips 0 (joined_same (slip_in t (slips_at to n)) slip m 0 (λ k a c. moved-slip k (omega arith)) i);
+      lines = sets b.lines 0 (joined_same (loaded_line to t n m) (loaded_line from s n m) n 0 (λ k a c. line_alike k (omega arith)) i);
+      slips = sets b.slips 0 (joined_same (slip_in t (slips_at to n)) slip m 0 (λ k a c. moved_slip k (omega arith)) i);
       used = set (set b.used 0 n) 1 m;
     }
 
     -- by whatever form the two are taken
     lent_same : (b : Lent) → lent_loaded (form_in t) t n m b ≡ lent_loaded (form_in s) s n m b
     lent_same b =
-        (rw (moved_lines, moved_slips) at (lent_taken to t b moved-save)) ∙ lent_alike b ∙ sym (lent_taken from s b valid)
+        (rw (moved_lines, moved_slips) at (lent_taken to t b moved_save)) ∙ lent_alike b ∙ sym (lent_taken from s b valid)
 
     -- and what loading answers
-    pub load-alike : (b : Lent) → load t b ≡ load s b
+    pub load_alike : (b : Lent) → load t b ≡ load s b
     unfolding load
-    load-alike b = rw (save_taken to t moved-save, save_taken from s valid, moved_lines, moved_slips, lent_same b)
+    load_alike b = rw (save_taken to t moved_save, save_taken from s valid, moved_lines, moved_slips, lent_same b)

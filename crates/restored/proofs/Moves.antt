@@ -28,7 +28,7 @@ use Rattle.restored.specs.Moves.{ToNewAndBack, BackAndToNew, NewLoadsAlike, OldL
 use Rattle.restored.proofs.Kept.{line_kept_law}
 use Rattle.restored.proofs.Forms.{valid_so}
 use Rattle.restored.proofs.Says.{new_says, old_says, number_or_absent}
-use Rattle.restored.proofs.Moved.{moved_lines, move_wrote, moved-save, moved-line, move-back, load-alike}
+use Rattle.restored.proofs.Moved.{moved_lines, move_wrote, moved_save, moved_line, move_back, load_alike}
 
 -- the move to the new form is done exactly for a save of the old form where the output is large enough
 pub to_new_exactly : ToNewExactly
@@ -86,21 +86,21 @@ module _ (s out : List ℕ) (bytes : Bytes s) (done : (to_new s out).said.answer
       rw (moved_lines Old New s bytes old_valid)
       (each_place (λ i. not (is_numbered (line_in New (moved Old New s) i))) (stated_lines s) 0
       (λ i a c. let l : i < stated_lines s = omega arith in
-      ap (λ (x : List ℕ). not (is_numbered x)) (moved-line Old New s bytes old_valid new_all i l)
+      ap (λ (x : List ℕ). not (is_numbered x)) (moved_line Old New s bytes old_valid new_all i l)
       ∙ ap not (old_number (body_in Old s i) (body_long Old s i (stands Old s old_valid i l)))))
 
   new_and_back : (out' : List ℕ) → length s ≤ length out' → to_old (saved_bytes (to_new s out)) out' ≡ moved_into New Old (moved Old New s) out'
   unfolding to_old
-  new_and_back out' room = rw (to_new_wrote, moved-save Old New s bytes old_valid new_all, none_there)
+  new_and_back out' room = rw (to_new_wrote, moved_save Old New s bytes old_valid new_all, none_there)
 
 -- old to new and back gives the old bytes
 pub to_new_and_back : ToNewAndBack
 to_new_and_back s out out' bytes done room =
-    new_and_back s out bytes done out' room ∙ move-back Old New s bytes (old_valid s out bytes done) (new_all s out bytes done) out' room
+    new_and_back s out bytes done out' room ∙ move_back Old New s bytes (old_valid s out bytes done) (new_all s out bytes done) out' room
 
 -- loading an old save is loading its new form
 pub new_loads_alike : NewLoadsAlike
-new_loads_alike s out b bytes done = rw (to_new_wrote s out bytes done) (load-alike Old New s bytes (old_valid s out bytes done) (new_all s out bytes done) b)
+new_loads_alike s out b bytes done = rw (to_new_wrote s out bytes done) (load_alike Old New s bytes (old_valid s out bytes done) (new_all s out bytes done) b)
 
 -- a save of the new form in which no message is a number
 module _ (s out : List ℕ) (bytes : Bytes s) (done : (to_old s out).said.answer ≡ 0) where
@@ -134,16 +134,16 @@ module _ (s out : List ℕ) (bytes : Bytes s) (done : (to_old s out).said.answer
 
   back_and_new : (out' : List ℕ) → length s ≤ length out' → to_new (saved_bytes (to_old s out)) out' ≡ moved_into Old New (moved New Old s) out'
   unfolding to_new
-  back_and_new out' room = rw (to_old_wrote, moved-save New Old s bytes new_valid old_all)
+  back_and_new out' room = rw (to_old_wrote, moved_save New Old s bytes new_valid old_all)
 
 -- back, and then to new, gives the new bytes
 pub back_and_to_new : BackAndToNew
 back_and_to_new s out out' bytes done room =
-    back_and_new s out bytes done out' room ∙ move-back New Old s bytes (new_valid s out bytes done) (old_all s out bytes done) out' room
+    back_and_new s out bytes done out' room ∙ move_back New Old s bytes (new_valid s out bytes done) (old_all s out bytes done) out' room
 
 -- loading a new save that was moved back is loading its old form
 pub old_loads_alike : OldLoadsAlike
-old_loads_alike s out b bytes done = rw (to_old_wrote s out bytes done) (load-alike New Old s bytes (new_valid s out bytes done) (old_all s out bytes done) b)
+old_loads_alike s out b bytes done = rw (to_old_wrote s out bytes done) (load_alike New Old s bytes (new_valid s out bytes done) (old_all s out bytes done) b)
 
 -- no message is a number exactly where each line has no report or an unknown message
 pub none_numbered_where : NoneNumbered

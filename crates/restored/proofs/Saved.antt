@@ -23,7 +23,7 @@ use Rattle.restored.specs.Restored.{Bytes, Orderly, Tells}
 use Rattle.restored.proofs.Cuts.{bytes_back}
 use Rattle.restored.proofs.Joined.{joined_front}
 use Rattle.restored.proofs.Says.{new_says}
-use Rattle.restored.proofs.Forms.{formed_same, formed_length, formed-line, formed_slip, formed_lines, formed_slips, formed-save, valid_so, moved_formed}
+use Rattle.restored.proofs.Forms.{formed_same, formed_length, formed_line, formed_slip, formed_lines, formed_slips, formed_save, valid_so, moved_formed}
 use Rattle.restored.proofs.Taken.{form_taken, slips_taken}
 
 -- a book that a save of bytes tells is saved as the save is moved to the new form
@@ -82,7 +82,7 @@ module _ (b : Lent) (orderly : Orderly b) where
   -- is a valid save
   pub saved_valid : is_save_of New (saved_form b) ≡ true
   unfolding saved_form
-  saved_valid = formed-save New n m line slip line_wide slip_wide line_said few_lines few_slips orderly.entries
+  saved_valid = formed_save New n m line slip line_wide slip_wide line_said few_lines few_slips orderly.entries
 
   -- states the lines
   pub saved_lines : stated_lines (saved_form b) ≡ n
@@ -97,7 +97,7 @@ module _ (b : Lent) (orderly : Orderly b) where
   -- the fronts of lines stand there
   saved_line : (i : ℕ) → i < n → line_in New (saved_form b) i ≡ line i
   unfolding saved_form
-  saved_line i a = formed-line New n m line slip line_wide slip_wide line_said i a
+  saved_line i a = formed_line New n m line slip line_wide slip_wide line_said i a
 
   -- the bodies of slips
   saved_slip : (j : ℕ) → j < m → slip_in (saved_form b) (slips_at New n) j ≡ slip j

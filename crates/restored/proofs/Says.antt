@@ -53,14 +53,14 @@ absent_so mark message date h over =
     let r : rest ≡ true = and_right (within least_mark most_mark mark) rest k in
     split (eqb message message_unknown)
     (λ u. record {
-      said = rw (some-mark mark marked) (eqb-true message message_unknown u);
+      said = rw (some_mark mark marked) (eqb-true message message_unknown u);
       blank = same_true date blank_date (rw u at r);
       either = rw (e, u) refl;
     })
     (λ u. let z : ◌≡◌ {A = ℕ} 0 1 = ap (λ (b : Bool). pick b 1 0) (rw (u, over) at r) in absurd (omega arith)))
   where
-    some-mark : (m : ℕ) → within least_mark most_mark m ≡ true → eqb m no_mark ≡ false
-    some-mark m w = let least : least_mark ≤ m = leb-true least_mark m (and_left (leb least_mark m) (leb m most_mark) w) in ne_eqb m no_mark (λ e. omega (arith, e))
+    some_mark : (m : ℕ) → within least_mark most_mark m ≡ true → eqb m no_mark ≡ false
+    some_mark m w = let least : least_mark ≤ m = leb-true least_mark m (and_left (leb least_mark m) (leb m most_mark) w) in ne_eqb m no_mark (λ e. omega (arith, e))
 
 -- a front of bytes whose last report goes together, and whose message is no number
 module _ (front : List ℕ) (bytes : Bytes front) (wide : length front ≡ front_width) (kept : report_kept front ≡ true) (none : is_numbered front ≡ false) where

@@ -24,7 +24,7 @@ use Rattle.ledger.specs.History.{bookings}
 use Rattle.ledger.proofs.Gives.{Gives, gives_more}
 use Rattle.cells.specs.declared.search.Found.TheVariants.{At}
 use Rattle.balance.specs.Told.{listed}
-use Rattle.balance.proofs.Listings.{listed_length, listed_same, listed_more, none-listed, first-listed, change-listed}
+use Rattle.balance.proofs.Listings.{listed_length, listed_same, listed_more, none_listed, first_listed, change_listed}
 use Rattle.restored.specs.History.{orders_of, deliveries_of, report_on, reports_of, history_of}
 
 -- one more entry is listed last
@@ -119,7 +119,7 @@ module _ (rooms : Rooms) (n m : ℕ) (line : ℕ → Line) (slip : ℕ → Slip)
       let school : Key = school_of (line k).key in
       let most = open_most school (arrived_by 0) k 0 (λ x a c. omega (arith, open_ordered (arrived_by 0 x), s.small x (omega arith))) in
       let below : open_of school (listed (arrived_by 0) k 0) + (line k).asked.copies ≤ highest_ceiling = omega (arith, most, s.small k h, s.few) in
-      rw (none-listed (λ (l : Line). same (line k).key l.key) p (arrived_by 0) (λ x. refl) k 0 (none_is p k 0 (λ x a c. s.line_new x k (omega arith) h)), le-ltb highest_ceiling (open_of school (listed (arrived_by 0) k 0) + (line k).asked.copies) below, listed_length (arrived_by 0) k 0, lt-leb rooms.for_lines k (omega (arith, s.lines_fit)))
+      rw (none_listed (λ (l : Line). same (line k).key l.key) p (arrived_by 0) (λ x. refl) k 0 (none_is p k 0 (λ x a c. s.line_new x k (omega arith) h)), le-ltb highest_ceiling (open_of school (listed (arrived_by 0) k 0) + (line k).asked.copies) below, listed_length (arrived_by 0) k 0, lt-leb rooms.for_lines k (omega (arith, s.lines_fit)))
 
   -- so are all, and give the lines with nothing arrived
   orders_give : (k : ℕ) → k ≤ n → Gives rooms (orders_of (listed line k 0)) (order_book k)
@@ -141,8 +141,8 @@ module _ (rooms : Rooms) (n m : ℕ) (line : ℕ → Line) (slip : ℕ → Slip)
       let i : ℕ = at j in
       let u : i < n = s.used j h in
       let p : ℕ → Bool = λ x. same (slip j).says.slip (slip x).says.slip in
-      let none_yet = none-listed (λ (t : Slip). same (slip j).says.slip t.says.slip) p slip (λ x. refl) j 0 (none_is p j 0 (λ x a c. s.slip_new x j (omega arith) h)) in
-      let there = first-listed (λ (l : Line). same (slip j).line l.key) (λ x. same (slip j).line (line x).key) (arrived_by j) (λ x. refl) n 0 i (line_named j h) in
+      let none_yet = none_listed (λ (t : Slip). same (slip j).says.slip t.says.slip) p slip (λ x. refl) j 0 (none_is p j 0 (λ x a c. s.slip_new x j (omega arith) h)) in
+      let there = first_listed (λ (l : Line). same (slip j).line l.key) (λ x. same (slip j).line (line x).key) (arrived_by j) (λ x. refl) n 0 i (line_named j h) in
       let own : share slip at i j ≡ (slip j).says.copies = rw (eq-eqb (at j) i refl) in
       let sum : sum_from (share slip at i) j 0 + (slip j).says.copies ≤ most_arrived =
       omega (arith, sum_more (share slip at i) j 0, ap (share slip at i) (zero-add j), own, sum_less (share slip at i) (suc j) m 0 h, s.sums i u, s.most i u) in
@@ -155,7 +155,7 @@ module _ (rooms : Rooms) (n m : ℕ) (line : ℕ → Line) (slip : ℕ → Slip)
       let next : (x : ℕ) → sum_from (share slip at x) (suc j) 0 ≡ sum_from (share slip at x) j 0 + share slip at x j =
       λ x. sum_more (share slip at x) j 0 ∙ ap (λ (y : ℕ). sum_from (share slip at x) j 0 + share slip at x y) (zero-add j) in
       λ i. record {
-        lines = sym (change-listed (λ (l : Line). same (slip j).line l.key) (λ x. same (slip j).line (line x).key) (arrived_by j) (λ x. refl)
+        lines = sym (change_listed (λ (l : Line). same (slip j).line l.key) (λ x. same (slip j).line (line x).key) (arrived_by j) (λ x. refl)
             (arrive (slip j).says.copies) (arrived_by (suc j)) n 0 (at j) (line_named j h)
             (rw (next (at j), eq-eqb (at j) (at j) refl))
             (λ x ne. rw (next x, ne_eqb (at j) x (λ q. ne (sym q))) (ap (λ (y : ℕ). record { key = (line x).key; asked = (line x).asked; arrived = y; last = none }) (omega arith)))) i;
@@ -196,7 +196,7 @@ module _ (rooms : Rooms) (n m : ℕ) (line : ℕ → Line) (slip : ℕ → Slip)
   report_allowed : (k : ℕ) (r : Report) → k < n → judge rooms (report_book k) (report (line k).key r) ≡ done
   unfolding judge tests first_of found line_at
   report_allowed k r h =
-      rw (first-listed (λ (l : Line). same (line k).key l.key) (λ x. same (line k).key (line x).key) (told_by k) (λ x. ap (same (line k).key) (told_key k x)) n 0 k (own_line k h))
+      rw (first_listed (λ (l : Line). same (line k).key l.key) (λ x. same (line k).key (line x).key) (told_by k) (λ x. ap (same (line k).key) (told_key k x)) n 0 k (own_line k h))
 
   -- it is entered
   report_entered : (k : ℕ) (r : Report) → k < n → (line k).last ≡ some r → enter (report_book k) (report (line k).key r) ≡ report_book (suc k)
@@ -204,7 +204,7 @@ module _ (rooms : Rooms) (n m : ℕ) (line : ℕ → Line) (slip : ℕ → Slip)
   report_entered k r h e =
       let here : line k ≡ tell r (unreported k) = λ i. record { key = (line k).key; asked = (line k).asked; arrived = (line k).arrived; last = e i } in
       λ i. record {
-        lines = sym (change-listed (λ (l : Line). same (line k).key l.key) (λ x. same (line k).key (line x).key) (told_by k) (λ x. ap (same (line k).key) (told_key k x))
+        lines = sym (change_listed (λ (l : Line). same (line k).key l.key) (λ x. same (line k).key (line x).key) (told_by k) (λ x. ap (same (line k).key) (told_key k x))
             (tell r) (told_by (suc k)) n 0 k (own_line k h) (told_after_law k ∙ here ∙ ap (tell r) (sym (told_before k))) (told_apart k)) i;
         slips = listed slip m 0;
       }

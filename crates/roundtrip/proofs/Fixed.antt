@@ -51,9 +51,9 @@ module _ (k : Kind) (fixed : List ℕ) where
 
   module _ (w : length fixed ≡ fixed_width k) where
     -- so each byte is allowed
-    pub faultless-allowed : first_faulty k fixed ≡ length (layout k) → run (belongs Allowed) fixed ≡ length fixed
+    pub faultless_allowed : first_faulty k fixed ≡ length (layout k) → run (belongs Allowed) fixed ≡ length fixed
     unfolding fixed_width
-    faultless-allowed e =
+    faultless_allowed e =
         omega (arith, w, holding_none (layout k) (run (belongs Allowed) fixed) (faultless_held e), run_most (belongs Allowed) fixed)
 
     -- each keeps its rule and each byte is allowed: no fixed field is faulty

@@ -16,7 +16,7 @@ use Rattle.reader.proofs.Fitting.{passed}
 use Rattle.writing.specs.Write.{optional_text}
 use Rattle.roundtrip.specs.Record.{id_after, optional_kept}
 use Rattle.roundtrip.proofs.Sequences.{all_front}
-use Rattle.roundtrip.proofs.Texts.{Writable, AllWritable, text-id, text-content, text-after, text_starts, last_id_law}
+use Rattle.roundtrip.proofs.Texts.{Writable, AllWritable, text_id, text_content, text_after, text_starts, last_id_law}
 use Rattle.roundtrip.proofs.FieldsBack.{Fields}
 
 -- the first n fields are n
@@ -60,7 +60,7 @@ module _ (k : Kind) where
   text_next : (fs : List Optional) → AllWritable fs → id_of (optional_text fs) ≡ id_after fs
   unfolding optional_text
   text_next [] w = last_id_law
-  text_next (f ∷ fs) w = text-id f (optional_text fs) w.0
+  text_next (f ∷ fs) w = text_id f (optional_text fs) w.0
 
   -- reading judges their text well
   pub text_judged : (before p : ℕ) (fs : List Optional) → optional_kept k before fs ≡ true → judge k (length fs) before p (optional_text fs) ≡ Fits 0
@@ -71,9 +71,9 @@ module _ (k : Kind) where
       let w : Writable f = record { below = a.below; plain = a.plain } in
       let s = text_starts fs in
       rw (
-        text-content f (optional_text fs) w s,
-        text-after f (optional_text fs) w s,
-        text-id f (optional_text fs) w,
+        text_content f (optional_text fs) w s,
+        text_after f (optional_text fs) w s,
+        text_id f (optional_text fs) w,
         a.content,
         text_next fs (kept_writable f.id fs a.others),
         a.group,

@@ -24,7 +24,7 @@ use Rattle.record.specs.declared.answer.Verdict.TheVariants.{Refused, Fits}
 use Rattle.record.specs.declared.layout.Kind.{Kind}
 use Rattle.record.specs.declared.layout.Kinded.{Kinded}
 use Rattle.record.specs.declared.layout.Kinded.TheVariants.{Known}
-use Rattle.reader.proofs.Stages.{by_kind, kind-rest, judge-fits, small_table, check-fits}
+use Rattle.reader.proofs.Stages.{by_kind, kind_rest, judge_fits, small_table, check_fits}
 use Rattle.reader.proofs.Fitting.{Fitting, fitting, fits_known, fits_long, fits_count}
 use Rattle.writing.specs.Write.{entries, optional_of, optional_text, record_text}
 use Rattle.roundtrip.specs.Record.{Parts, fixed_part, MakesRecord, IsRecord}
@@ -73,11 +73,11 @@ check_done s lent e = verdict_fits (judged s) (rw (le-ltb (length lent) (most_fi
 -- a check of a record that fits, with a large table, is done with so many fields, and the entries in the table name them
 module _ (s lent : List ℕ) (h : LargeTable lent) (n : ℕ) (e : judged s ≡ Fits n) where
   pub fits_said : (check s lent).said ≡ checked_of (Fits n)
-  fits_said = ap (λ (o : Outcome). o.said) (check-fits s lent h n e)
+  fits_said = ap (λ (o : Outcome). o.said) (check_fits s lent h n e)
 
   pub fits_table : optional_of s (entries n (check s lent).table) ≡ optional_fields n s
   unfolding optional_fields
-  fits_table = rw (check-fits s lent h n e) (fields_back s n (optional_start (kind_of s)) (drop (n * entry_width) lent))
+  fits_table = rw (check_fits s lent h n e) (fields_back s n (optional_start (kind_of s)) (drop (n * entry_width) lent))
 
 -- a fixed part and optional fields that make a record, read
 module _ (k : Kind) (fixed : List ℕ) (fs : List Optional) (w : Whole k fixed fs) where
@@ -119,8 +119,8 @@ module _ (k : Kind) (fixed : List ℕ) (fs : List Optional) (w : Whole k fixed f
   whole_fits =
       by_kind text w.short
       ∙ ap (λ (j : Kinded). kind_judged j text) whole_kind
-      ∙ kind-rest k text long (all_whole (belongs Allowed) text w.allowed) unbroken
-      ∙ judge-fits k (fixed_width k) (drop (fixed_width k) text) (length fs) walked 0 well
+      ∙ kind_rest k text long (all_whole (belongs Allowed) text w.allowed) unbroken
+      ∙ judge_fits k (fixed_width k) (drop (fixed_width k) text) (length fs) walked 0 well
 
   -- its optional fields are those that it was made of
   pub whole_fields : optional_fields (length fs) text ≡ fs

@@ -55,9 +55,9 @@ module _ (f : Optional) (rest : List ℕ) where
 
   -- a field that may be written
   module _ (w : Writable f) where
-    pub text-id : id_of (field_text f ++ rest) ≡ f.id
+    pub text_id : id_of (field_text f ++ rest) ≡ f.id
     unfolding id_of id_in
-    text-id = rw (text_head (omega (arith, w.below)))
+    text_id = rw (text_head (omega (arith, w.below)))
 
     -- in front of a star or of nothing
     module _ (e : run not_star rest ≡ 0) where
@@ -66,14 +66,14 @@ module _ (f : Optional) (rest : List ℕ) where
       text_width = rw (text_behind, run_append not_star f.content rest w.plain, e) (omega arith)
 
       -- its content
-      pub text-content : content_of (field_text f ++ rest) ≡ f.content
+      pub text_content : content_of (field_text f ++ rest) ≡ f.content
       unfolding content_of
-      text-content = rw (text_width, text_behind) (take-append_seam f.content rest)
+      text_content = rw (text_width, text_behind) (take-append_seam f.content rest)
 
       -- what comes after it
-      pub text-after : after_field (field_text f ++ rest) ≡ rest
+      pub text_after : after_field (field_text f ++ rest) ≡ rest
       unfolding after_field field_width
-      text-after =
+      text_after =
           rw (text_width, ← drop-drop (length f.content) head_width (field_text f ++ rest), text_behind) (drop-append_seam f.content rest)
 
 -- the optional part begins with a star
@@ -138,7 +138,7 @@ text_walked (f ∷ fs) w (suc room) n p h =
     let t = field_text f ++ optional_text fs in
     let e : n + 1 + length fs ≡ n + suc (length fs) = omega arith in
     at_other n p f (optional_text fs) _ w.0
-    ∙ rw (text-after f (optional_text fs) w.0 (text_starts fs), ← e) (text_walked fs w.1 room (n + 1) (p + field_width t) (omega arith))
+    ∙ rw (text_after f (optional_text fs) w.0 (text_starts fs), ← e) (text_walked fs w.1 room (n + 1) (p + field_width t) (omega arith))
 
 -- the fields read are the fields written
 pub text_fields : (fs : List Optional) → AllWritable fs → fields_of (length fs) (optional_text fs) ≡ fs
@@ -146,4 +146,4 @@ unfolding optional_text fields_of
 text_fields [] w = refl
 text_fields (f ∷ fs) w =
     let e = text_starts fs in
-    rw (text-id f (optional_text fs) w.0, text-content f (optional_text fs) w.0 e, text-after f (optional_text fs) w.0 e, text_fields fs w.1)
+    rw (text_id f (optional_text fs) w.0, text_content f (optional_text fs) w.0 e, text_after f (optional_text fs) w.0 e, text_fields fs w.1)

@@ -12,7 +12,7 @@ use Rattle.record.specs.declared.answer.Verdict.TheVariants.{Fits}
 use Rattle.record.specs.declared.layout.Kind.{Kind}
 use Rattle.record.specs.declared.layout.Kinded.TheVariants.{Known}
 use Rattle.walks.proofs.Tables.{entries_length}
-use Rattle.reader.proofs.Stages.{check-fits}
+use Rattle.reader.proofs.Stages.{check_fits}
 use Rattle.writing.specs.Write.{entries, optional_of, record_text}
 use Rattle.roundtrip.specs.Record.{CanWrite}
 use Rattle.roundtrip.specs.Demand2.{read_call, WritesBack}
@@ -48,8 +48,8 @@ module _ (k : Kind) (s : List ℕ) (n : ℕ) (g : kind_of s ≡ Known k) (e : ju
     }
 
     -- as it was
-    fit-back : WritesBack (fixed_of k s) (stored_of k s n rest) n s out
-    fit-back = rw text_same at ((write_exactly (fixed_of k s) (stored_of k s n rest) n s out).all_records can)
+    fit_back : WritesBack (fixed_of k s) (stored_of k s n rest) n s out
+    fit_back = rw text_same at ((write_exactly (fixed_of k s) (stored_of k s n rest) n s out).all_records can)
 
 -- what is written from what a check of a record gave is the record
 pub write_after_read : (k : Kind) (s lent out : List ℕ) → kind_of s ≡ Known k → (read_call s lent).said.answer ≡ 0 → length s ≤ length out
@@ -57,5 +57,5 @@ pub write_after_read : (k : Kind) (s lent out : List ℕ) → kind_of s ≡ Know
 unfolding checked_of optional_start
 write_after_read k s lent out g a room =
     let d = check_done s lent a in
-    rw (check-fits s lent (table_large s lent a) d.0 d.1, g)
-    (fit-back k s d.0 g d.1 (drop (d.0 * entry_width) lent) out room)
+    rw (check_fits s lent (table_large s lent a) d.0 d.1, g)
+    (fit_back k s d.0 g d.1 (drop (d.0 * entry_width) lent) out room)

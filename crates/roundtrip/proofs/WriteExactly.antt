@@ -21,12 +21,12 @@ use Rattle.writing.specs.declared.answer.Refusal.{Refusal}
 use Rattle.writing.specs.declared.answer.Refusal.TheVariants.{FixedField, TooManyFields, SmallTable, Content, Group, TooLong, SmallOutput}
 use Rattle.writing.specs.declared.answer.Verdict.{Verdict}
 use Rattle.writing.specs.declared.answer.Verdict.TheVariants.{Refused, Fits}
-use Rattle.writing.proofs.Stages.{fixed-fits, fields_fit, fixed_passed, write_fits}
+use Rattle.writing.proofs.Stages.{fixed_fits, fields_fit, fixed_passed, write_fits}
 use Rattle.writing.proofs.Fitting.{Fitting, fitting, fits_inside}
 use Rattle.roundtrip.specs.Record.{CanWrite}
 use Rattle.roundtrip.specs.Demand2.{write_call, WriteExactly}
 use Rattle.roundtrip.proofs.Texts.{contents_allowed, text_allowed}
-use Rattle.roundtrip.proofs.Fixed.{faultless_kept, faultless-allowed, faultless}
+use Rattle.roundtrip.proofs.Fixed.{faultless_kept, faultless_allowed, faultless}
 use Rattle.writing.proofs.Halves.{entries_length, fields_length}
 use Rattle.roundtrip.proofs.EntriesKept.{accepted_kept, accepted_allowed, kept_accepted}
 use Rattle.roundtrip.proofs.Whole.{Whole, made_whole, whole_made}
@@ -63,28 +63,28 @@ module _ (fixed table : List ℕ) (count : ℕ) (contents out : List ℕ) where
   -- what makes a record is accepted, given the table, the contents and the output
   module _ (k : Kind) (w : Whole k fixed fields) (c : CanWrite fixed table count contents out) where
     -- each byte of the fixed part and of the contents is allowed
-    both-allowed : (all (belongs Allowed) fixed ≡ true) × (contents_allowed fields ≡ true)
+    both_allowed : (all (belongs Allowed) fixed ≡ true) × (contents_allowed fields ≡ true)
     unfolding record_text
-    both-allowed =
+    both_allowed =
         let a = rw (all_append (belongs Allowed) fixed (optional_text fields), text_allowed fields) at w.allowed in
         (and_left (all (belongs Allowed) fixed) (contents_allowed fields) a, and_right (all (belongs Allowed) fixed) (contents_allowed fields) a)
 
-    fixed-done : fixed_judged (kind_of fixed) fixed ≡ Fits 0
-    fixed-done =
-        rw w.named (fixed-fits k fixed w.wide (faultless k fixed w.wide w.unbroken (all_whole (belongs Allowed) fixed both-allowed.0)))
+    fixed_done : fixed_judged (kind_of fixed) fixed ≡ Fits 0
+    fixed_done =
+        rw w.named (fixed_fits k fixed w.wide (faultless k fixed w.wide w.unbroken (all_whole (belongs Allowed) fixed both_allowed.0)))
 
-    fields-done : fields_judged k contents no_member 0 (entries count table) ≡ Fits 0
-    fields-done = kept_accepted k contents no_member 0 (entries count table) c.lent w.kept both-allowed.1
+    fields_done : fields_judged k contents no_member 0 (entries count table) ≡ Fits 0
+    fields_done = kept_accepted k contents no_member 0 (entries count table) c.lent w.kept both_allowed.1
 
-    length-done : length_judged (length text) out ≡ Fits (length text)
+    length_done : length_judged (length text) out ≡ Fits (length text)
     unfolding length_judged
-    length-done = rw (le-ltb most_bytes (length text) w.short, le-ltb (length out) (length text) c.room)
+    length_done = rw (le-ltb most_bytes (length text) w.short, le-ltb (length out) (length text) c.room)
 
-    whole-done : write_judged fixed table count contents out ≡ Fits (length text)
-    whole-done =
+    whole_done : write_judged fixed table count contents out ≡ Fits (length text)
+    whole_done =
         let few : count ≤ most_fields = omega (arith, as_many, w.few) in
-        fixed_passed fixed table count contents out 0 fixed-done
-        ∙ rw w.named (fields_fit k fixed table count contents out few c.listed 0 fields-done ∙ length-done)
+        fixed_passed fixed table count contents out 0 fixed_done
+        ∙ rw w.named (fields_fit k fixed table count contents out few c.listed 0 fields_done ∙ length_done)
 
   -- and it is written
   can_done : CanWrite fixed table count contents out
@@ -92,13 +92,13 @@ module _ (fixed table : List ℕ) (count : ℕ) (contents out : List ℕ) where
   unfolding written_of
   can_done c =
       write_fits fixed table count contents out (length text)
-      (whole-done c.makes.parts.kind (made_whole fixed fields c.makes) c)
+      (whole_done c.makes.parts.kind (made_whole fixed fields c.makes) c)
 
   -- what writing accepts makes a record
   accepted_whole : (k : Kind) (n : ℕ) → Fitting k fixed table count contents out n → Whole k fixed fields
   unfolding record_text
   accepted_whole k n a =
-      let f = run_all (belongs Allowed) fixed (faultless-allowed k fixed a.wide a.sound) in
+      let f = run_all (belongs Allowed) fixed (faultless_allowed k fixed a.wide a.sound) in
       record {
         named = a.named;
         wide = a.wide;

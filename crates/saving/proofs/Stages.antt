@@ -28,9 +28,9 @@ module _ (b : Lent) (out : List ℕ) where
 
   module _ (h : sound b ≡ true) where
     -- 23
-    pub save-small : length out < saved_width New (used_lines b) (used_slips b) → save b out ≡ written (not_saved TooSmall) out
+    pub save_small : length out < saved_width New (used_lines b) (used_slips b) → save b out ≡ written (not_saved TooSmall) out
     unfolding save
-    save-small e = rw (h, lt-leb (saved_width New (used_lines b) (used_slips b)) (length out) e)
+    save_small e = rw (h, lt-leb (saved_width New (used_lines b) (used_slips b)) (length out) e)
 
     pub save_done : saved_width New (used_lines b) (used_slips b) ≤ length out
         → save b out ≡ written (saved_as (saved_width New (used_lines b) (used_slips b))) (sets out 0 (saved_form b))
@@ -38,10 +38,10 @@ module _ (b : Lent) (out : List ℕ) where
     save_done e = rw (h, le-leb (saved_width New (used_lines b) (used_slips b)) (length out) e)
 
     -- lines, slips and the end stored one after the other are the saved form
-    pub form-stored : sets (sets (sets out 0 (line_entries New (line_front_at b.lines) (used_lines b))) (slips_at New (used_lines b)) (slip_entries (slip_body_at b.slips) (used_slips b))) (slips_at New (used_lines b) + saved_slip_width * used_slips b) (end_entry (used_lines b) (used_slips b))
+    pub form_stored : sets (sets (sets out 0 (line_entries New (line_front_at b.lines) (used_lines b))) (slips_at New (used_lines b)) (slip_entries (slip_body_at b.slips) (used_slips b))) (slips_at New (used_lines b) + saved_slip_width * used_slips b) (end_entry (used_lines b) (used_slips b))
         ≡ sets out 0 (saved_form b)
     unfolding saved_form formed
-    form-stored =
+    form_stored =
         let say = sound_so b h in
         let n : ℕ = used_lines b in
         let m : ℕ = used_slips b in
@@ -77,17 +77,17 @@ module _ (s : List ℕ) (b : Lent) where
 
   module _ (h : rooms_sound b ≡ true) where
     -- 22
-    pub load-no-save : is_save s ≡ false → load s b ≡ outcome (not_loaded NoSave) b
+    pub load_no_save : is_save s ≡ false → load s b ≡ outcome (not_loaded NoSave) b
     unfolding load
-    load-no-save e = rw (h, e)
+    load_no_save e = rw (h, e)
 
     module _ (e : is_save s ≡ true) where
       -- 23
-      pub load-small : leb (stated_lines s) (line_room b) && leb (stated_slips s) (slip_room b) ≡ false → load s b ≡ outcome (not_loaded TooSmall) b
+      pub load_small : leb (stated_lines s) (line_room b) && leb (stated_slips s) (slip_room b) ≡ false → load s b ≡ outcome (not_loaded TooSmall) b
       unfolding load
-      load-small f = rw (h, e, f)
+      load_small f = rw (h, e, f)
 
-      pub load-done : leb (stated_lines s) (line_room b) && leb (stated_slips s) (slip_room b) ≡ true
+      pub load_done : leb (stated_lines s) (line_room b) && leb (stated_slips s) (slip_room b) ≡ true
           → load s b ≡ outcome done_as (lent_loaded (form_in s) s (stated_lines s) (stated_slips s) b)
       unfolding load
-      load-done f = rw (h, e, f)
+      load_done f = rw (h, e, f)

@@ -13,7 +13,7 @@ use Rattle.record.specs.declared.answer.Refusal.{Refusal as Fault}
 use Rattle.record.specs.declared.answer.Verdict.{Verdict as Judged}
 use Rattle.record.specs.declared.answer.Verdict.TheVariants.{Refused as NoRecord, Fits as Holds}
 use Rattle.reader.proofs.Fitting.{fits_known}
-use Rattle.reader.proofs.Stages.{check-refused, check-fits}
+use Rattle.reader.proofs.Stages.{check_refused, check_fits}
 use Rattle.writing.specs.Widths.{all_inside}
 use Rattle.writing.specs.Write.{entries, optional_of}
 use Rattle.roundtrip.specs.Demand2.{LargeTable}
@@ -48,14 +48,14 @@ module _ (s room : List ℕ) where
 
       -- 26 and 27, or the parts in front of the room
       module _ (b : is_bundle s ≡ true) (fs : List Optional) (named : fs ≡ optional_fields n s) where
-        pub parts-refused : (r : Refusal) → loops_judged (loops_of fs) ≡ Refused r → read_parts s room ≡ outcome (read_of (Refused r)) room
+        pub parts_refused_law : (r : Refusal) → loops_judged (loops_of fs) ≡ Refused r → read_parts s room ≡ outcome (read_of (Refused r)) room
         unfolding read_parts bundle_read parts_judged room_after
-        parts-refused r j = rw (le-ltb _ _ wide, e, b, ← named, j)
+        parts_refused_law r j = rw (le-ltb _ _ wide, e, b, ← named, j)
 
-        pub parts-read : (m : ℕ) → loops_judged (loops_of fs) ≡ Fits m
+        pub parts_read_law : (m : ℕ) → loops_judged (loops_of fs) ≡ Fits m
             → read_parts s room ≡ outcome (read_of (Fits m)) (room_of (parts_of m (loops_of fs)) ++ drop (m * part_width) room)
         unfolding read_parts bundle_read parts_judged room_after
-        parts-read m j = rw (le-ltb _ _ wide, e, b, ← named, j)
+        parts_read_law m j = rw (le-ltb _ _ wide, e, b, ← named, j)
 
 -- what a check with a large table said, and the table that it left
 module _ (s lent : List ℕ) (large : LargeTable lent) (r : Checked) (t : List ℕ) (q : checks r t ≡ check s lent) where
@@ -67,7 +67,7 @@ module _ (s lent : List ℕ) (large : LargeTable lent) (r : Checked) (t : List �
       → read_parts s room ≡ outcome (record { answer = r.answer; place = r.place; parts = 0 }) room
   unfolding checked_of
   by_verdict room wide h (NoRecord x) e =
-      let k : r ≡ checked_of (NoRecord x) = said ∙ ap (λ (o : Outcome). o.said) (check-refused s lent large x e) in
+      let k : r ≡ checked_of (NoRecord x) = said ∙ ap (λ (o : Outcome). o.said) (check_refused s lent large x e) in
       no_record s room wide x e ∙ rw k
   by_verdict room wide h (Holds n) e = absurd (h (ap (λ (c : Checked). c.answer) (said ∙ fits_said s lent large n e)))
 
@@ -77,9 +77,9 @@ module _ (s lent : List ℕ) (large : LargeTable lent) (r : Checked) (t : List �
 
   -- with answer 0 the record fits, with as many fields as are told
   module _ (a : r.answer ≡ 0) where
-    pub record-holds : judged s ≡ Holds r.fields
+    pub record_holds : judged s ≡ Holds r.fields
     unfolding checked_of
-    record-holds =
+    record_holds =
         let d = check_done s lent (ap (λ (c : Checked). c.answer) (sym said) ∙ a) in
         d.1 ∙ ap (λ (c : Checked). Holds c.fields) (sym (said ∙ fits_said s lent large d.0 d.1))
 
@@ -87,15 +87,15 @@ module _ (s lent : List ℕ) (large : LargeTable lent) (r : Checked) (t : List �
     left_so = ap (λ (o : Outcome). o.table) q
 
     -- which the table names
-    pub fields-named : optional_of s (entries r.fields t) ≡ optional_fields r.fields s
-    fields-named =
-        ap (λ (x : List ℕ). optional_of s (entries r.fields x)) left_so ∙ fits_table s lent large r.fields record-holds
+    pub fields_named : optional_of s (entries r.fields t) ≡ optional_fields r.fields s
+    fields_named =
+        ap (λ (x : List ℕ). optional_of s (entries r.fields x)) left_so ∙ fits_table s lent large r.fields record_holds
 
     -- with their contents inside the record
     pub fields_inside : all_inside s (entries r.fields t) ≡ true
     unfolding optional_start
     fields_inside =
-        let k = fits_known s r.fields record-holds in
+        let k = fits_known s r.fields record_holds in
         ap (λ (x : List ℕ). all_inside s (entries r.fields x)) left_so
-        ∙ rw (check-fits s lent large r.fields record-holds, k.1)
-        (stored_inside s r.fields _ (drop (r.fields * entry_width) lent) (fits_fields k.0 s r.fields k.1 record-holds))
+        ∙ rw (check_fits s lent large r.fields record_holds, k.1)
+        (stored_inside s r.fields _ (drop (r.fields * entry_width) lent) (fits_fields k.0 s r.fields k.1 record_holds))

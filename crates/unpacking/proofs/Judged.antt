@@ -14,7 +14,7 @@ use Rattle.record.specs.Read.{entry_width}
 use Rattle.writing.specs.Widths.{all_inside}
 use Rattle.writing.specs.Write.{entries, optional_in, optional_of}
 use Rattle.writing.specs.declared.entries.Entry.{Entry}
-use Rattle.writing.proofs.Halves.{entries_length, fields_length, fields-drop, inside-drop}
+use Rattle.writing.proofs.Halves.{entries_length, fields_length, fields_drop, inside_drop}
 use Rattle.parts.specs.Entries.{others_among}
 use Rattle.parts.specs.Loops.{part_id, loop_fields, most_parts, are_loops, others_in, loops_of, loop_count, whole_loops}
 use Rattle.parts.specs.Read.{loops_judged}
@@ -42,13 +42,13 @@ module _ (contents table : List ℕ) (count first : ℕ) (q : first ≡ others_a
   loops_from m e =
       ap (λ (k : ℕ). drop k (optional_of contents (entries count table))) (others_named contents (entries count table) ∙ sym q)
       ∙ ap (λ (k : ℕ). drop first (optional_of contents (entries k table))) (sym e)
-      ∙ fields-drop contents first m table
+      ∙ fields_drop contents first m table
 
   -- their contents are inside the record, where all are
   pub from_inside : (m : ℕ) → first + m ≡ count → all_inside contents (entries count table) ≡ true
       → all_inside contents (entries m (drop (first * entry_width) table)) ≡ true
   from_inside m e a =
-      inside-drop contents first m table (ap (λ (k : ℕ). all_inside contents (entries k table)) e ∙ a)
+      inside_drop contents first m table (ap (λ (k : ℕ). all_inside contents (entries k table)) e ∙ a)
 
   -- how many they are
   pub loops_long : length (loops_of (optional_of contents (entries count table))) ≡ count - first
@@ -64,19 +64,19 @@ module _ (fs : List Optional) (n : ℕ) (long : length fs ≡ n) where
   loops_none e = rw (long, eq-eqb _ _ e)
 
   module _ (some : n ≡ 0 → ⊥) where
-    pub loops-uneven : (n % loop_fields ≡ 0 → ⊥) → loops_judged fs ≡ Refused Broken
+    pub loops_uneven : (n % loop_fields ≡ 0 → ⊥) → loops_judged fs ≡ Refused Broken
     unfolding loops_judged whole_loops
-    loops-uneven h = rw (long, ne_eqb _ _ some, ne_eqb _ _ h)
+    loops_uneven h = rw (long, ne_eqb _ _ some, ne_eqb _ _ h)
 
     module _ (even : n % loop_fields ≡ 0) where
-      pub loops-broken : are_loops (n / loop_fields) fs ≡ false → loops_judged fs ≡ Refused Broken
+      pub loops_broken : are_loops (n / loop_fields) fs ≡ false → loops_judged fs ≡ Refused Broken
       unfolding loops_judged whole_loops
-      loops-broken h = rw (long, ne_eqb _ _ some, eq-eqb _ _ even, h)
+      loops_broken h = rw (long, ne_eqb _ _ some, eq-eqb _ _ even, h)
 
       module _ (whole : are_loops (n / loop_fields) fs ≡ true) where
-        pub loops-many : most_parts < n / loop_fields → loops_judged fs ≡ Refused TooMany
+        pub loops_many : most_parts < n / loop_fields → loops_judged fs ≡ Refused TooMany
         unfolding loops_judged whole_loops
-        loops-many h = rw (long, ne_eqb _ _ some, eq-eqb _ _ even, whole, lt-ltb _ _ h)
+        loops_many h = rw (long, ne_eqb _ _ some, eq-eqb _ _ even, whole, lt-ltb _ _ h)
 
         pub loops_fit : n / loop_fields ≤ most_parts → loops_judged fs ≡ Fits (n / loop_fields)
         unfolding loops_judged whole_loops

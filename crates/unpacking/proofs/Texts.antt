@@ -11,7 +11,7 @@ use Rattle.record.specs.Read.{entry_width}
 use Rattle.writing.specs.Widths.{all_inside}
 use Rattle.writing.specs.Write.{entry_of, entries, content_in, optional_in, optional_of, inside}
 use Rattle.writing.specs.declared.entries.Entry.{Entry}
-use Rattle.writing.proofs.Halves.{inside-drop}
+use Rattle.writing.proofs.Halves.{inside_drop}
 use Rattle.writing.proofs.Tables.{entry_here}
 use Rattle.writing.proofs.Records.{first_inside}
 use Rattle.parts.specs.Part.{text_of}
@@ -37,4 +37,4 @@ module _ (contents table : List ℕ) (i n : ℕ) (h : i < n) (e : Entry) (q : e 
   entry_inside a =
       let k : n ≡ i + (n - i) = omega arith in
       first_inside (entry_here n i table h e q) contents
-      (inside-drop contents i (n - i) table (ap (λ (m : ℕ). all_inside contents (entries m table)) (sym k) ∙ a))
+      (inside_drop contents i (n - i) table (ap (λ (m : ℕ). all_inside contents (entries m table)) (sym k) ∙ a))

@@ -96,14 +96,14 @@ module _ (guard : Bool) (s : List ℕ) (p : ℕ) where
         ap (λ (k : ℕ). slice p k s) (end_on s p h e) ∙ next s p (end_of s (p + 1)) (omega arith) (omega arith)
 
     -- past a byte that it may hold
-    pub barred-on : guard && barred (get_or s p 0) ≡ false → barred_from guard s p ≡ barred_from guard s (p + 1)
+    pub barred_on : guard && barred (get_or s p 0) ≡ false → barred_from guard s p ≡ barred_from guard s (p + 1)
     unfolding barred_from
-    barred-on g = rw from_byte (any_on guard (get_or s p 0) _ g)
+    barred_on g = rw from_byte (any_on guard (get_or s p 0) _ g)
 
     -- at one that it may not
-    pub barred-found : guard && barred (get_or s p 0) ≡ true → barred_from guard s p ≡ true
+    pub barred_found : guard && barred (get_or s p 0) ≡ true → barred_from guard s p ≡ true
     unfolding barred_from
-    barred-found g = rw from_byte (any_found guard (get_or s p 0) _ g)
+    barred_found g = rw from_byte (any_found guard (get_or s p 0) _ g)
 
   -- where it ends
   pub barred_none : end_of s p ≡ p → barred_from guard s p ≡ false

@@ -53,14 +53,14 @@ module _ (s : List ℕ) (at : ℕ) where
 
   module _ (l : 5 ≤ length s - at) where
     -- the four bytes after the first are not all digits
-    pub head-letters : all_of Digit (slice (at + 1) (at + 5) s) ≡ false → head_of (drop at s) ≡ Missing
+    pub head_letters : all_of Digit (slice (at + 1) (at + 5) s) ≡ false → head_of (drop at s) ≡ Missing
     unfolding head_of
-    head-letters e = simp (digits, four l, e, and_false)
+    head_letters e = simp (digits, four l, e, and_false)
 
     -- a star and four digits stand there
-    pub head-id : get_or s at 0 ≡ 42 → all_of Digit (slice (at + 1) (at + 5) s) ≡ true → head_of (drop at s) ≡ Id (number (slice (at + 1) (at + 5) s))
+    pub head_id : get_or s at 0 ≡ 42 → all_of Digit (slice (at + 1) (at + 5) s) ≡ true → head_of (drop at s) ≡ Id (number (slice (at + 1) (at + 5) s))
     unfolding head_of
-    head-id h e = simp (first, eq-eqb (get_or s at 0) 42 h, digits, four l, e)
+    head_id h e = simp (first, eq-eqb (get_or s at 0) 42 h, digits, four l, e)
 
 -- the ID of a field that stands there
 pub id_of_law : (t : List ℕ) (id : ℕ) → head_of t ≡ Id id → id_of t ≡ id

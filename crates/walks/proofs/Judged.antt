@@ -45,17 +45,17 @@ module _ (k : Kind) (n i : ℕ) (l : i < n) (s : List ℕ) (at before id : ℕ) 
     kept_by = rw (field_content s at, ← g, b, q, ← e)
 
     -- its content breaks the rule
-    pub judge-content : keeps (content_rule id) [] content ≡ false → judge k (n - i) before at (drop at s) ≡ Refused (Content at)
+    pub judge_content : keeps (content_rule id) [] content ≡ false → judge k (n - i) before at (drop at s) ≡ Refused (Content at)
     unfolding judge
-    judge-content r = rw (left, ← d, kept_by, r)
+    judge_content r = rw (left, ← d, kept_by, r)
 
     module _ (r : keeps (content_rule id) [] content ≡ true) (after : ℕ) (a : after ≡ id_of (drop end s)) where
       -- its content keeps the rule, and its group is broken
-      pub judge-group : group_kept before id after ≡ false → judge k (n - i) before at (drop at s) ≡ Refused (Group at)
+      pub judge_group : group_kept before id after ≡ false → judge k (n - i) before at (drop at s) ≡ Refused (Group at)
       unfolding judge
-      judge-group u = rw (left, ← d, kept_by, r, field_after s at, q, ← a, u)
+      judge_group u = rw (left, ← d, kept_by, r, field_after s at, q, ← a, u)
 
       -- both are well: it is passed
-      pub judge-next : group_kept before id after ≡ true → judge k (n - i) before at (drop at s) ≡ judge k (n - (i + 1)) id end (drop end s)
+      pub judge_next : group_kept before id after ≡ true → judge k (n - i) before at (drop at s) ≡ judge k (n - (i + 1)) id end (drop end s)
       unfolding judge
-      judge-next u = rw (left, ← d, kept_by, r, field_after s at, field_end s at, q, ← a, u)
+      judge_next u = rw (left, ← d, kept_by, r, field_after s at, field_end s at, q, ← a, u)

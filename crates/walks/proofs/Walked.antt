@@ -48,49 +48,49 @@ module _ (s : List ℕ) (at n : ℕ) where
 
   module _ (h : at < length s) where
     -- something is left of the record: the head there decides
-    walk-head : (room : ℕ) (d : Head) → head_of (drop at s) ≡ d → walk room n at (drop at s) ≡ on_head d n at (drop at s) (more room n at (drop at s))
-    walk-head room d e =
+    walk_head : (room : ℕ) (d : Head) → head_of (drop at s) ≡ d → walk room n at (drop at s) ≡ on_head d n at (drop at s) (more room n at (drop at s))
+    walk_head room d e =
         at_first room n at (drop at s) ∙ field_head n at (drop at s) _ d (λ q. omega (arith, length-drop at s)) e
 
     -- no field stands there
-    pub walk-missing : (room : ℕ) → head_of (drop at s) ≡ Missing → walk room n at (drop at s) ≡ Refused (NoField at)
+    pub walk_missing : (room : ℕ) → head_of (drop at s) ≡ Missing → walk room n at (drop at s) ≡ Refused (NoField at)
     unfolding on_head
-    walk-missing room e = walk-head room Missing e
+    walk_missing room e = walk_head room Missing e
 
     module _ (id : ℕ) (e : head_of (drop at s) ≡ Id id) where
       -- the last field stands there, and ends the record
-      pub walk-last : (room : ℕ) → id ≡ 9999 → at + 5 ≡ length s → walk room n at (drop at s) ≡ Fits n
+      pub walk_last : (room : ℕ) → id ≡ 9999 → at + 5 ≡ length s → walk room n at (drop at s) ≡ Fits n
       unfolding on_head
-      walk-last room q l =
-          walk-head room (Id id) e
+      walk_last room q l =
+          walk_head room (Id id) e
           ∙ rw (eq-eqb id 9999 q, eq-eqb (length (drop at s)) 5 (length-drop at s ∙ omega arith))
 
       -- the last field stands there, and more follows or some of it is missing
-      pub walk-early : (room : ℕ) → id ≡ 9999 → (at + 5 ≡ length s → ⊥) → walk room n at (drop at s) ≡ Refused (LastField at)
+      pub walk_early : (room : ℕ) → id ≡ 9999 → (at + 5 ≡ length s → ⊥) → walk room n at (drop at s) ≡ Refused (LastField at)
       unfolding on_head
-      walk-early room q l =
-          walk-head room (Id id) e
+      walk_early room q l =
+          walk_head room (Id id) e
           ∙ rw (eq-eqb id 9999 q, ne_eqb (length (drop at s)) 5 (λ z. l (omega (arith, length-drop at s))))
 
       -- another field stands there
-      walk-other : (room : ℕ) → (id ≡ 9999 → ⊥) → walk room n at (drop at s) ≡ more room n at (drop at s)
+      walk_other : (room : ℕ) → (id ≡ 9999 → ⊥) → walk room n at (drop at s) ≡ more room n at (drop at s)
       unfolding on_head
-      walk-other room q = walk-head room (Id id) e ∙ rw (ne_eqb id 9999 q)
+      walk_other room q = walk_head room (Id id) e ∙ rw (ne_eqb id 9999 q)
 
       -- another field stands there, where as many as may stand were passed
-      pub walk-full : (id ≡ 9999 → ⊥) → n ≡ most_fields → walk (most_fields - n) n at (drop at s) ≡ Refused (TooManyFields at)
+      pub walk_full : (id ≡ 9999 → ⊥) → n ≡ most_fields → walk (most_fields - n) n at (drop at s) ≡ Refused (TooManyFields at)
       unfolding more
-      walk-full q l =
+      walk_full q l =
           let z : most_fields - n ≡ 0 = omega arith in
-          rw z (walk-other 0 q)
+          rw z (walk_other 0 q)
 
       -- another field stands there, where one more may stand: it is passed
-      pub walk-next : (id ≡ 9999 → ⊥) → n < most_fields
+      pub walk_next : (id ≡ 9999 → ⊥) → n < most_fields
           → walk (most_fields - n) n at (drop at s) ≡ walk (most_fields - (n + 1)) (n + 1) (end_of s (at + 5)) (drop (end_of s (at + 5)) s)
       unfolding more
-      walk-next q l =
+      walk_next q l =
           let z : most_fields - n ≡ suc (most_fields - (n + 1)) = omega arith in
-          rw z (walk-other (suc (most_fields - (n + 1))) q ∙ rw (field_end s at, field_after s at))
+          rw z (walk_other (suc (most_fields - (n + 1))) q ∙ rw (field_end s at, field_after s at))
 
 -- of two verdicts one fits
 pick_fits : (b : Bool) (x y : Verdict) {m : ℕ} → pick b x y ≡ Fits m → (x ≡ Fits m) ⊎ (y ≡ Fits m)

@@ -58,15 +58,15 @@ module _ (contents : List ℕ) (e : Entry) where
 
   -- whether an entry can be a field: not where it cannot be written, else by what its content may be
   module _ (k : Kind) where
-    pub kept-not : writable contents e ≡ false → entry_kept k contents e ≡ false
+    pub kept_not : writable contents e ≡ false → entry_kept k contents e ≡ false
     unfolding entry_kept
-    kept-not h = rw h
+    kept_not h = rw h
 
-    pub kept-so : writable contents e ≡ true → entry_kept k contents e ≡ content_kept k e.id (slice e.place (e.place + e.width) contents)
+    pub kept_so : writable contents e ≡ true → entry_kept k contents e ≡ content_kept k e.id (slice e.place (e.place + e.width) contents)
     unfolding entry_kept content_in
-    kept-so h = rw h
+    kept_so h = rw h
 
     -- an entry kept stands inside the lent bytes
-    pub kept-inside : entry_kept k contents e ≡ true → inside contents e ≡ true
+    pub kept_inside : entry_kept k contents e ≡ true → inside contents e ≡ true
     unfolding entry_kept
-    kept-inside h = writable_inside (and_left (writable contents e) _ h)
+    kept_inside h = writable_inside (and_left (writable contents e) _ h)

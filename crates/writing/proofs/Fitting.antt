@@ -23,7 +23,7 @@ use Rattle.writing.specs.declared.answer.Refusal.{Refusal}
 use Rattle.writing.specs.declared.answer.Verdict.{Verdict}
 use Rattle.writing.specs.declared.answer.Verdict.TheVariants.{Refused, Fits}
 use Rattle.writing.specs.declared.entries.Entry.{Entry}
-use Rattle.writing.proofs.Contents.{kept-inside}
+use Rattle.writing.proofs.Contents.{kept_inside}
 use Rattle.writing.proofs.Widths.{record_wide}
 
 -- a test that refuses where it holds, or where it does not, and does not refuse
@@ -54,7 +54,7 @@ fields_inside k contents before i [] m h = refl
 fields_inside k contents before i (e ∷ es) m h =
     let a = refuses_false (entry_kept k contents e) _ _ m h in
     let b = refuses_false (group_kept before e.id (next_id es)) _ _ m a.1 in
-    rw (kept-inside contents e k a.0) (fields_inside k contents e.id (i + 1) es m b.1)
+    rw (kept_inside contents e k a.0) (fields_inside k contents e.id (i + 1) es m b.1)
 
 -- a fixed part that fits is of a kind, as long as that, and without a faulty field
 pub fixed_known : (j : Kinded) (fixed : List ℕ) (m : ℕ) → fixed_judged j fixed ≡ Fits m

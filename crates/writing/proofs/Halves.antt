@@ -56,11 +56,11 @@ module _ (contents : List ℕ) where
     long : length (optional_of contents (entries a table)) ≡ a
     long = fields_length contents (entries a table) ∙ entries_length a table
 
-    pub fields-take : take a (optional_of contents (entries (a + b) table)) ≡ optional_of contents (entries a table)
-    fields-take = ap (take a) halves ∙ take_at (optional_of contents (entries a table)) _ a long
+    pub fields_take : take a (optional_of contents (entries (a + b) table)) ≡ optional_of contents (entries a table)
+    fields_take = ap (take a) halves ∙ take_at (optional_of contents (entries a table)) _ a long
 
-    pub fields-drop : drop a (optional_of contents (entries (a + b) table)) ≡ optional_of contents (entries b (drop (a * entry_width) table))
-    fields-drop = ap (drop a) halves ∙ drop_at (optional_of contents (entries a table)) _ a long
+    pub fields_drop : drop a (optional_of contents (entries (a + b) table)) ≡ optional_of contents (entries b (drop (a * entry_width) table))
+    fields_drop = ap (drop a) halves ∙ drop_at (optional_of contents (entries a table)) _ a long
 
     module _ (h : all_inside contents (entries (a + b) table) ≡ true) where
       both : all_inside contents (entries a table) && all_inside contents (entries b (drop (a * entry_width) table)) ≡ true
@@ -69,5 +69,5 @@ module _ (contents : List ℕ) where
       pub inside_take : all_inside contents (entries a table) ≡ true
       inside_take = and_left _ _ both
 
-      pub inside-drop : all_inside contents (entries b (drop (a * entry_width) table)) ≡ true
-      inside-drop = and_right (all_inside contents (entries a table)) _ both
+      pub inside_drop : all_inside contents (entries b (drop (a * entry_width) table)) ≡ true
+      inside_drop = and_right (all_inside contents (entries a table)) _ both

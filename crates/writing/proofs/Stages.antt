@@ -21,13 +21,13 @@ module _ (k : Kind) (fixed : List ℕ) where
   width_refused h = rw (ne_eqb _ _ h)
 
   module _ (h : length fixed ≡ fixed_width k) where
-    pub fault-refused : (first_faulty k fixed ≡ length (layout k) → ⊥) → fixed_judged (Known k) fixed ≡ Refused (FixedField (first_faulty k fixed))
+    pub fault_refused : (first_faulty k fixed ≡ length (layout k) → ⊥) → fixed_judged (Known k) fixed ≡ Refused (FixedField (first_faulty k fixed))
     unfolding fixed_judged
-    fault-refused g = rw (eq-eqb _ _ h, ne_eqb _ _ g)
+    fault_refused g = rw (eq-eqb _ _ h, ne_eqb _ _ g)
 
-    pub fixed-fits : first_faulty k fixed ≡ length (layout k) → fixed_judged (Known k) fixed ≡ Fits 0
+    pub fixed_fits : first_faulty k fixed ≡ length (layout k) → fixed_judged (Known k) fixed ≡ Fits 0
     unfolding fixed_judged
-    fixed-fits g = rw (eq-eqb _ _ h, eq-eqb _ _ g)
+    fixed_fits g = rw (eq-eqb _ _ h, eq-eqb _ _ g)
 
 -- 8, 23, then 9 and 10, of a record of a known kind
 module _ (k : Kind) (fixed table : List ℕ) (count : ℕ) (contents out : List ℕ) where
@@ -36,15 +36,15 @@ module _ (k : Kind) (fixed table : List ℕ) (count : ℕ) (contents out : List 
   many_refused h = rw (lt-ltb _ _ h)
 
   module _ (h : count ≤ most_fields) where
-    pub table-refused : length table < count * entry_width → rest_judged (Known k) fixed table count contents out ≡ Refused SmallTable
+    pub table_refused : length table < count * entry_width → rest_judged (Known k) fixed table count contents out ≡ Refused SmallTable
     unfolding rest_judged
-    table-refused g = rw (le-ltb _ _ h, lt-ltb _ _ g)
+    table_refused g = rw (le-ltb _ _ h, lt-ltb _ _ g)
 
     module _ (g : count * entry_width ≤ length table) where
-      pub fields-refused : (r : Refusal) → fields_judged k contents no_member 0 (entries count table) ≡ Refused r
+      pub fields_refused : (r : Refusal) → fields_judged k contents no_member 0 (entries count table) ≡ Refused r
           → rest_judged (Known k) fixed table count contents out ≡ Refused r
       unfolding rest_judged ◌next◌
-      fields-refused r e = rw (le-ltb _ _ h, le-ltb _ _ g, e)
+      fields_refused r e = rw (le-ltb _ _ h, le-ltb _ _ g, e)
 
       pub fields_fit : (m : ℕ) → fields_judged k contents no_member 0 (entries count table) ≡ Fits m
           → rest_judged (Known k) fixed table count contents out ≡ length_judged (length (record_text fixed (optional_of contents (entries count table)))) out

@@ -57,22 +57,22 @@ module _ (count i : ℕ) (table : List ℕ) (h : i < count) (e : Entry) (q : e �
 
   -- judged as a field: its content cannot stand, its group is broken, or the fields after it are judged
   module _ (k : Kind) (contents : List ℕ) (before : ℕ) where
-    pub content-refused : entry_kept k contents e ≡ false
+    pub content_refused : entry_kept k contents e ≡ false
         → fields_judged k contents before i (entries (count - i) (drop (i * entry_width) table)) ≡ Refused (Content i)
     unfolding fields_judged
-    content-refused a = rw (entry_here, a)
+    content_refused a = rw (entry_here, a)
 
     module _ (a : entry_kept k contents e ≡ true) (after : ℕ) (n : after ≡ next_id (entries (count - (i + 1)) (drop ((i + 1) * entry_width) table))) where
-      pub group-refused : group_kept before e.id after ≡ false
+      pub group_refused : group_kept before e.id after ≡ false
           → fields_judged k contents before i (entries (count - i) (drop (i * entry_width) table)) ≡ Refused (Group i)
       unfolding fields_judged
-      group-refused g = rw (entry_here, a, ← n, g)
+      group_refused g = rw (entry_here, a, ← n, g)
 
-      pub field-passed : group_kept before e.id after ≡ true
+      pub field_passed : group_kept before e.id after ≡ true
           → fields_judged k contents before i (entries (count - i) (drop (i * entry_width) table))
           ≡ fields_judged k contents e.id (i + 1) (entries (count - (i + 1)) (drop ((i + 1) * entry_width) table))
       unfolding fields_judged
-      field-passed g = rw (entry_here, a, ← n, g)
+      field_passed g = rw (entry_here, a, ← n, g)
 
 -- with no field left nothing is refused
 pub fields_end : (k : Kind) (contents : List ℕ) (before count i : ℕ) (table : List ℕ) → count ≤ i

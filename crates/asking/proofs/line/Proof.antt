@@ -1,7 +1,7 @@
 -- `asking::line` meets its contract.
 use mathlib.Core.Path.{◌∙◌, sym}
 use Rattle.cells.proofs.Bools.{is_not, is_so}
-use Rattle.asking.proofs.Asked.{asked_unsound, asked-none, asked-found}
+use Rattle.asking.proofs.Asked.{asked_unsound, asked_none, asked_found}
 use borrow.Author.Rules.{rules}
 use Rattle.asking.proofs.line.Statement.{statement}
 use Rattle.asking.proofs.line.Tie as tie
@@ -27,7 +27,7 @@ returns-2 : tie.Need-returns-2
 returns-2 c =
     let then = c.before in
     let else = then.before.before in
-    c.refuse2.ensures ∙ sym (asked-none _ _ (is_so else.before.is_sound.ensures else.if1.false) (is_not then.before.are-wide.ensures then.if2.true))
+    c.refuse2.ensures ∙ sym (asked_none _ _ (is_so else.before.is_sound.ensures else.if1.false) (is_not then.before.are-wide.ensures then.if2.true))
 
 figures-at-requires : tie.Need-figures-at-requires
 figures-at-requires c κs =
@@ -39,7 +39,7 @@ returns-3 c =
     let wide = c.before in
     let sound = wide.before.before in
     c.figures-at.ensures
-    ∙ sym (asked-found _ _ (is_so sound.before.is_sound.ensures sound.if1.false) (is_so wide.before.are-wide.ensures wide.if2.false))
+    ∙ sym (asked_found _ _ (is_so sound.before.is_sound.ensures sound.if1.false) (is_so wide.before.are-wide.ensures wide.if2.false))
 
 pub line-spec : {M : Type 1} → statement M
 line-spec =

@@ -6,7 +6,7 @@ use Rattle.record.specs.declared.layout.Kind.TheVariants.{Order, Goods, Closing,
 use Rattle.record.specs.declared.layout.Kinded.TheVariants.{Known}
 use Rattle.book.proofs.Fields.{order_copies, goods_copies}
 use Rattle.booking.proofs.Rooms.{fixed_wide}
-use Rattle.booking.proofs.Stages.{book_sound, book_unsound, book-unread, book-unknown, book-known, closing_so}
+use Rattle.booking.proofs.Stages.{book_sound, book_unsound, book_unread, book_unknown, book_known, closing_so}
 use borrow.Author.Rules.{rules}
 use Rattle.booking.proofs.book.Statement.{statement}
 use Rattle.booking.proofs.book.Tie as tie
@@ -114,7 +114,7 @@ returns-2 c =
     let arm = c.before.before in
     let judge = arm.before.before in
     let else = judge.before in
-    rw c.not-booked2.ensures (sym (book-unread _ _ _ (is_so else.before.are-sound.ensures else.if1.false) _ (sym judge.judge-record.ensures ∙ arm.r.given.1)))
+    rw c.not-booked2.ensures (sym (book_unread _ _ _ (is_so else.before.are-sound.ensures else.if1.false) _ (sym judge.judge-record.ensures ∙ arm.r.given.1)))
 
 same-length-5 : tie.Need-same-length-5
 same-length-5 c = search rules
@@ -130,7 +130,7 @@ returns-3 c =
     let judge = read.before.before in
     let else = judge.before in
     let f = sym judge.judge-record.ensures ∙ read.enum_told.given.1 in
-    rw c.not-booked3.ensures (sym (book-unknown _ _ _ (is_so else.before.are-sound.ensures else.if1.false) _ f (sym kind.kind-of.ensures ∙ arm.enum-told2.given.1)))
+    rw c.not-booked3.ensures (sym (book_unknown _ _ _ (is_so else.before.are-sound.ensures else.if1.false) _ f (sym kind.kind-of.ensures ∙ arm.enum-told2.given.1)))
 
 same-length-7 : tie.Need-same-length-7
 same-length-7 c = search rules
@@ -149,7 +149,7 @@ returns-4 c =
     let else = judge.before in
     let g = sym kind.kind-of.ensures ∙ known.k.given.1 ∙ ap Known arm.enum-told3.given.1 in
     let f = sym judge.judge-record.ensures ∙ read.enum_told.given.1 in
-    call.book-order.ensures ∙ sym (book-known _ _ _ (is_so else.before.are-sound.ensures else.if1.false) _ f Order g)
+    call.book-order.ensures ∙ sym (book_known _ _ _ (is_so else.before.are-sound.ensures else.if1.false) _ f Order g)
 
 same-length-9 : tie.Need-same-length-9
 same-length-9 c = search rules
@@ -168,7 +168,7 @@ returns-5 c =
     let else = judge.before in
     let g = sym kind.kind-of.ensures ∙ known.k.given.1 ∙ ap Known arm.enum-told4.given.1 in
     let f = sym judge.judge-record.ensures ∙ read.enum_told.given.1 in
-    call.book-goods.ensures ∙ sym (book-known _ _ _ (is_so else.before.are-sound.ensures else.if1.false) _ f Goods g)
+    call.book-goods.ensures ∙ sym (book_known _ _ _ (is_so else.before.are-sound.ensures else.if1.false) _ f Goods g)
 
 same-length-11 : tie.Need-same-length-11
 same-length-11 c = search rules
@@ -186,7 +186,7 @@ returns-6 c =
     let else = judge.before in
     let g = sym kind.kind-of.ensures ∙ known.k.given.1 ∙ ap Known arm.enum-told5.given.1 in
     let f = sym judge.judge-record.ensures ∙ read.enum_told.given.1 in
-    rw c.not-booked4.ensures (sym (book-known _ _ _ (is_so else.before.are-sound.ensures else.if1.false) _ f Closing g ∙ closing_so _ _ _))
+    rw c.not-booked4.ensures (sym (book_known _ _ _ (is_so else.before.are-sound.ensures else.if1.false) _ f Closing g ∙ closing_so _ _ _))
 
 same-length-13 : tie.Need-same-length-13
 same-length-13 c = search rules
@@ -205,7 +205,7 @@ returns-7 c =
     let else = judge.before in
     let g = sym kind.kind-of.ensures ∙ known.k.given.1 ∙ ap Known arm.enum-told6.given.1 in
     let f = sym judge.judge-record.ensures ∙ read.enum_told.given.1 in
-    call.book-report.ensures ∙ sym (book-known _ _ _ (is_so else.before.are-sound.ensures else.if1.false) _ f Report g)
+    call.book-report.ensures ∙ sym (book_known _ _ _ (is_so else.before.are-sound.ensures else.if1.false) _ f Report g)
 
 pub book-spec : {M : Type 1} → statement M
 book-spec =

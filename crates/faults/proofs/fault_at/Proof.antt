@@ -16,7 +16,7 @@ use Rattle.lent_parts.specs.Faults.{is_kept, first_fault}
 use Rattle.faults.proofs.Kept.{tax_kept, article_qualifier_kept, medium_kept}
 use Rattle.parts.proofs.Lent.{tax_is, article_qualifier_is}
 use Rattle.faults.proofs.Loop.{article_loop}
-use Rattle.faults.proofs.First.{fault_here, fault_next, no_fault, bad_tax, bad-net, bad-list, behind}
+use Rattle.faults.proofs.First.{fault_here, fault_next, no_fault, bad_tax, bad_net, bad_list, behind}
 use borrow.Author.Rules.{rules}
 use Rattle.faults.proofs.fault_at.Statement.{statement}
 use Rattle.faults.proofs.fault_at.Tie as tie
@@ -80,7 +80,7 @@ returns-2 c =
     let d = c.before.before in
     let a = d.before.before.before.before.args in
     let e = c.before.price-fault.ensures in
-    let b = bad-net a.s.now a.at (is_so (tax d.before) d.if1.false) (omega (arith, e, c.if2.true)) in
+    let b = bad_net a.s.now a.at (is_so (tax d.before) d.if1.false) (omega (arith, e, c.if2.true)) in
     omega (arith, e, b)
 
 add-price-fault-2 : tie.Need-overflow-add-price-fault-2
@@ -98,7 +98,7 @@ returns-3 c =
     let d = n.before.before in
     let a = d.before.before.before.before.args in
     let e = c.before.price-fault2.ensures in
-    let b = bad-list a.s.now a.at (is_so (tax d.before) d.if1.false) (omega (arith, n.before.price-fault.ensures, n.if2.false)) (omega (arith, e, c.if3.true)) in
+    let b = bad_list a.s.now a.at (is_so (tax d.before) d.if1.false) (omega (arith, n.before.price-fault.ensures, n.if2.false)) (omega (arith, e, c.if3.true)) in
     omega (arith, e, b)
 
 is-article-kept-requires : tie.Need-is-article-kept-requires

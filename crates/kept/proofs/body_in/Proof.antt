@@ -13,10 +13,10 @@ use Rattle.kept.proofs.body_in.Tie as tie
 
 -- the entry stands in the save
 stands : (c : tie.After-line-width)
-    → c.line-width.result * c.before.before.args.i + suc (line_body_width c.before.before.args.form) ≤ length c.before.before.args.s.now
+    → c.line_width_law.result * c.before.before.args.i + suc (line_body_width c.before.before.args.form) ≤ length c.before.before.args.s.now
 stands c =
     let a = c.before.before in
-    rw (c.line-width.ensures, ← entry_wide a.args.form) a.requires
+    rw (c.line_width_law.ensures, ← entry_wide a.args.form) a.requires
 
 line-width-requires : tie.Need-line-width-requires
 line-width-requires c κs = search rules
@@ -50,7 +50,7 @@ returns c =
     let a = b.before.before.args in
     let w = saved_line_width a.form in
     let end : w * a.i + 1 + line_body_width a.form ≡ w * a.i + w = omega (arith, entry_wide a.form) in
-    rw (b.line-width.ensures, width.body-width.ensures, ← end)
+    rw (b.line_width_law.ensures, width.body-width.ensures, ← end)
     (part_is (w * a.i + 1) (w * a.i + 1 + line_body_width a.form) a.s.now (omega arith))
 
 pub body-in-spec : {M : Type 1} → statement M

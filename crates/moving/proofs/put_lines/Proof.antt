@@ -38,10 +38,10 @@ stands c =
 
 -- and its entry in the output
 fits : (c : tie.In-loop invariant-loop decreases-loop)
-    → c.before.before.line-width.result * c.before.loop.i + saved_line_width c.before.before.before.before.before.args.to ≤ length c.before.loop.out
+    → c.before.before.line_width_law.result * c.before.loop.i + saved_line_width c.before.before.before.before.before.args.to ≤ length c.before.loop.out
 fits c =
     let a = c.before.before.before.before.before in
-    rw c.before.before.line-width.ensures (omega (arith, a.requires.1, c.before.loop.invariant.1, line_before a.args.to c.before.loop.i a.args.n (omega arith)))
+    rw c.before.before.line_width_law.ensures (omega (arith, a.requires.1, c.before.loop.invariant.1, line_before a.args.to c.before.loop.i a.args.n (omega arith)))
 
 line-width-requires : tie.Need-line-width-requires invariant-loop decreases-loop
 line-width-requires c κs = search rules
@@ -82,7 +82,7 @@ loop-again c =
       put.put-line.auto.0 ∙ l.invariant.1,
       l.invariant.2
           ∙ joined_next (entry a.from a.to a.saved.now) a.n l.i l.out (w * l.i) w (omega arith) long
-          ∙ rw (next, put.put-line.ensures, put.before.body-in.ensures, at-line.before.before.line-width.ensures),
+          ∙ rw (next, put.put-line.ensures, put.before.body-in.ensures, at-line.before.before.line_width_law.ensures),
     )
 
 same_length : tie.Need-same-length invariant-loop decreases-loop

@@ -1,7 +1,7 @@
 -- `packing::write_parts` meets its contract, stage by stage.
 use mathlib.Core.Path.{◌∙◌, sym}
 use Rattle.cells.proofs.Bools.{is_not, is_so}
-use Rattle.parts.proofs.Stages.{too_many, small_room, misplaced, no-loops, parts-taken}
+use Rattle.parts.proofs.Stages.{too_many, small_room, misplaced, no_loops, parts_taken}
 use borrow.Author.Rules.{rules}
 use Rattle.packing.proofs.write_parts.Statement.{statement}
 use Rattle.packing.proofs.write_parts.Tie as tie
@@ -43,7 +43,7 @@ returns-4 c =
     let l = c.before.before in
     let m = l.before.before in
     rw c.not-written4.ensures
-    (sym (no-loops _ _ _ _ _ _ _ m.before.before.if1.false m.before.if2.false (sym m.is-misplaced.ensures ∙ l.before.if3.false) (is_not l.are-lent-loops.ensures c.before.if4.true)))
+    (sym (no_loops _ _ _ _ _ _ _ m.before.before.if1.false m.before.if2.false (sym m.is-misplaced.ensures ∙ l.before.if3.false) (is_not l.are-lent-loops.ensures c.before.if4.true)))
 
 write-with-requires : tie.Need-write-with-requires
 write-with-requires c κs =
@@ -60,7 +60,7 @@ returns-5 c =
     let l = e.before in
     let m = l.before.before in
     c.before.before.write-with.ensures
-    ∙ sym (parts-taken _ _ _ _ _ _ _ m.before.before.if1.false m.before.if2.false (sym m.is-misplaced.ensures ∙ l.before.if3.false) (is_so l.are-lent-loops.ensures e.if4.false))
+    ∙ sym (parts_taken _ _ _ _ _ _ _ m.before.before.if1.false m.before.if2.false (sym m.is-misplaced.ensures ∙ l.before.if3.false) (is_so l.are-lent-loops.ensures e.if4.false))
 
 pub write-parts-spec : {M : Type 1} → statement M
 write-parts-spec =

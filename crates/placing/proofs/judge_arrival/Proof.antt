@@ -1,7 +1,7 @@
 -- `placing::judge_arrival` meets its contract: 21 before 19.
 use mathlib.Core.Path.{sym}
 use native.Mathlib.Omega.{arith}
-use Rattle.placing.proofs.Placed.{arrival_many, arrival_fits, arrival-full}
+use Rattle.placing.proofs.Placed.{arrival_many, arrival_fits, arrival_full}
 use borrow.Author.Rules.{rules}
 use Rattle.placing.proofs.judge_arrival.Statement.{statement}
 use Rattle.placing.proofs.judge_arrival.Tie as tie
@@ -26,7 +26,7 @@ returns-2 c =
 returns-3 : tie.Need-returns-3
 returns-3 c =
     let e = c.before.before in
-    sym (arrival-full _ _ _ (rw e.before.before.before.read-line.ensures at e.if1.false) c.if2.false)
+    sym (arrival_full _ _ _ (rw e.before.before.before.read-line.ensures at e.if1.false) c.if2.false)
 
 pub judge-arrival-spec : {M : Type 1} → statement M
 judge-arrival-spec =

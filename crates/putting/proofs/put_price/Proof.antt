@@ -12,7 +12,7 @@ use Rattle.parts.specs.Loops.{loop}
 use Rattle.parts.specs.Part.{lent_price}
 use Rattle.parts.specs.Fields.{amount_text}
 use Rattle.putting.proofs.Texts.{one, both, behind, field_end, field_fits}
-use Rattle.putting.proofs.Loops.{digits-most, amount-put, price-long, qualifier_put, currency_put, two_long, three_long}
+use Rattle.putting.proofs.Loops.{digits_most, amount_put, price_long, qualifier_put, currency_put, two_long, three_long}
 use borrow.Author.Rules.{rules}
 use Rattle.putting.proofs.put_price.Statement.{statement}
 use Rattle.putting.proofs.put_price.Tie as tie
@@ -32,7 +32,7 @@ member-id-requires c κs = search rules
 put-head-requires : tie.Need-put-head-requires
 put-head-requires c κs =
     let start = c.before.before.before.before.before in
-    omega (arith, price-long start.args.s.now start.args.from start.requires.0 start.requires.1)
+    omega (arith, price_long start.args.s.now start.args.from start.requires.0 start.requires.1)
 
 add-put-digits : tie.Need-overflow-add-put-digits
 add-put-digits c = search rules
@@ -43,8 +43,8 @@ word8-requires c κs = search rules
 put-digits-requires : tie.Need-put-digits-requires
 put-digits-requires c κs =
     let start = c.before.before.before.before.before.before.before.before.before.before in
-    let m = digits-most start.args.s.now start.args.from start.requires.0 start.requires.1 in
-    (m, omega (arith, price-long start.args.s.now start.args.from start.requires.0 start.requires.1))
+    let m = digits_most start.args.s.now start.args.from start.requires.0 start.requires.1 in
+    (m, omega (arith, price_long start.args.s.now start.args.from start.requires.0 start.requires.1))
 
 add-next : tie.Need-overflow-add-next
 add-next c = search rules
@@ -52,7 +52,7 @@ add-next c = search rules
 add-next-2 : tie.Need-overflow-add-next-2
 add-next-2 c =
     let start = c.before.before.before.before.before.before.before.before.before.before.before.before.before in
-    omega (arith, price-long start.args.s.now start.args.from start.requires.0 start.requires.1)
+    omega (arith, price_long start.args.s.now start.args.from start.requires.0 start.requires.1)
 
 member-id-requires-2 : tie.Need-member-id-requires-2
 member-id-requires-2 c κs = search rules
@@ -70,7 +70,7 @@ put-field-requires : tie.Need-put-field-requires
 put-field-requires c κs =
     let start = c.before.before.before.before.before.before.before.before.before.before.before.before.before.before.before.before in
     let s = start.args.s.now in
-    omega (arith, price-long s start.args.from start.requires.0 start.requires.1, ap length c.part.ensures, part_most (start.args.from + 9) (start.args.from + 11) s)
+    omega (arith, price_long s start.args.from start.requires.0 start.requires.1, ap length c.part.ensures, part_most (start.args.from + 9) (start.args.from + 11) s)
 
 member-id-requires-3 : tie.Need-member-id-requires-3
 member-id-requires-3 c κs = search rules
@@ -94,7 +94,7 @@ put-field-requires-2 c κs =
     let e = field_end (a.at + 5 + get_or s (a.from + 8) 0) 2 first.put-field.ensures.1 refl first.before.part.ensures (two_long s a.from start.requires.0) in
     field_fits _ 3 (length a.out.now) e c.part2.ensures (three_long s a.from start.requires.0)
     (first.put-field.auto.0 ∙ digits.put-digits.auto.0 ∙ digits.before.before.before.before.before.put-head.auto.0)
-    (omega (arith, start.requires.2, price-long s a.from start.requires.0 start.requires.1))
+    (omega (arith, start.requires.2, price_long s a.from start.requires.0 start.requires.1))
 
 same_length : tie.Need-same-length
 same_length c = search rules
@@ -112,7 +112,7 @@ returns c =
     let p = lent_price s a.from in
     let w = digits.before.word8.ensures in
     let first = behind a.out.now a.at _ (record { id = 1029; content = amount_text p }) head.before.member-id.ensures
-    (ap (digits_of (get_or s (a.from + 8) 0)) (word_is s a.from 8 _ w.0 w.1) ∙ amount-put s a.from start.requires.0 start.requires.1)
+    (ap (digits_of (get_or s (a.from + 8) 0)) (word_is s a.from 8 _ w.0 w.1) ∙ amount_put s a.from start.requires.0 start.requires.1)
     (digits_length _ _) head.put-head.ensures digits.put-digits.ensures in
     both _ _ (record { id = 1029; content = amount_text p } ∷ []) (record { id = 1030; content = p.qualifier } ∷ record { id = 1032; content = p.currency } ∷ []) first
     (both _ _ (record { id = 1030; content = p.qualifier } ∷ []) (record { id = 1032; content = p.currency } ∷ [])

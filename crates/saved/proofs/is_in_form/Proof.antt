@@ -24,15 +24,15 @@ unfolding saved_width
 long c = rw (← c.before.slips-at.ensures) (eq-eqb _ _ c.if1.false)
 
 -- the lines end where the slips begin
-product : (c : tie.After-line-width) → c.line-width.result * c.before.before.before.before.before.args.n ≡ c.before.before.before.slips-at.result
+product : (c : tie.After-line-width) → c.line_width_law.result * c.before.before.before.before.before.args.n ≡ c.before.before.before.slips-at.result
 unfolding slips_at
-product c = rw (c.line-width.ensures, c.before.before.before.slips-at.ensures)
+product c = rw (c.line_width_law.ensures, c.before.before.before.slips-at.ensures)
 
 -- the lines begin with their kind, and the slips
 kinds : (c : tie.After-are-of-kind)
     → c.are-of-kind.result
     ≡ all_of_kind (line_kind c.before.before.before.before.before.before.args.form) (saved_line_width c.before.before.before.before.before.before.args.form) 0 c.before.before.before.before.before.before.args.n c.before.before.before.before.before.before.args.s.now
-kinds c = rw (c.are-of-kind.ensures, c.before.before.line_kind_law.ensures, c.before.line-width.ensures)
+kinds c = rw (c.are-of-kind.ensures, c.before.before.line_kind_law.ensures, c.before.line_width_law.ensures)
 
 slip_kinds : (c : tie.After-are-of-kind2)
     → c.are-of-kind2.result

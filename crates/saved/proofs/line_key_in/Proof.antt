@@ -14,10 +14,10 @@ use Rattle.saved.proofs.line_key_in.Statement.{statement}
 use Rattle.saved.proofs.line_key_in.Tie as tie
 
 -- the key stands in the save
-stands : (c : tie.After-line-width) → c.line-width.result * c.before.before.args.i + 1 + 34 ≤ length c.before.before.args.s.now
+stands : (c : tie.After-line-width) → c.line_width_law.result * c.before.before.args.i + 1 + 34 ≤ length c.before.before.args.s.now
 stands c =
     let a = c.before.before in
-    rw c.line-width.ensures (omega (arith, a.requires, entry_wide a.args.form, width_least a.args.form))
+    rw c.line_width_law.ensures (omega (arith, a.requires, entry_wide a.args.form, width_least a.args.form))
 
 line-width-requires : tie.Need-line-width-requires
 line-width-requires c κs = search rules
@@ -46,7 +46,7 @@ returns c =
     let b = c.before in
     let a = b.before.before.args in
     let w = saved_line_width a.form in
-    rw (b.line-width.ensures, line_key a.form a.s.now a.i b.before.before.requires)
+    rw (b.line_width_law.ensures, line_key a.form a.s.now a.i b.before.before.requires)
     (part_is (w * a.i + 1) (w * a.i + 1 + 34) a.s.now (omega arith)
     ∙ sym (front_within a.s.now (w * a.i + 1) (w * a.i + w) 34 (omega (arith, entry_wide a.form, width_least a.form))))
 

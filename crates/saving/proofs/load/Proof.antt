@@ -12,7 +12,7 @@ use Rattle.book.specs.Lent.{lent, line_room, slip_room, rooms_sound}
 use Rattle.save.specs.Form.{slips_at}
 use Rattle.save.specs.Saved.{saved_slip_width, stated_lines, stated_slips, is_save_of, is_save}
 use Rattle.save.proofs.Forms.{save_long, either_form}
-use Rattle.saving.proofs.Stages.{small_either, load_unsound, load-no-save, load-small, load-done}
+use Rattle.saving.proofs.Stages.{small_either, load_unsound, load_no_save, load_small, load_done}
 use borrow.Author.Rules.{rules}
 use Rattle.saving.proofs.load.Statement.{statement}
 use Rattle.saving.proofs.load.Tie as tie
@@ -89,7 +89,7 @@ not-loaded-requires-2 c κs = search rules
 returns-2 : tie.Need-returns-2
 returns-2 c =
     let then = c.before in
-    rw c.not-loaded2.ensures (sym (load-no-save _ _ (rooms-sound then.before.before.before) (is_not (judged then.before) then.if2.true)))
+    rw c.not-loaded2.ensures (sym (load_no_save _ _ (rooms-sound then.before.before.before) (is_not (judged then.before) then.if2.true)))
 
 sub-get2 : tie.Need-overflow-sub-get2
 sub-get2 c = omega (arith, save_long _ _ (of-form c))
@@ -112,7 +112,7 @@ returns-3 c =
     let read = then.before in
     let saved = read.before.before in
     rw c.not-loaded3.ensures
-    (sym (load-small _ _ (rooms-sound saved.before.before.before) (is-saved saved) (fits read ∙ ap not then.if3.true)))
+    (sym (load_small _ _ (rooms-sound saved.before.before.before) (is-saved saved) (fits read ∙ ap not then.if3.true)))
 
 fill-requires : tie.Need-fill-requires
 unfolding line_room slip_room
@@ -139,7 +139,7 @@ returns-4 c =
     let read = filled.before.before.before.before.before in
     let saved = read.before.before in
     rw (filled.fill.ensures, lines-read read.before, slips-read read, saved.before.before.form_in.ensures)
-    (sym (load-done _ _ (rooms-sound saved.before.before.before) (is-saved saved) (fits read ∙ ap not filled.before.before.before.before.if3.false)))
+    (sym (load_done _ _ (rooms-sound saved.before.before.before) (is-saved saved) (fits read ∙ ap not filled.before.before.before.before.if3.false)))
 
 pub load_spec : {M : Type 1} → statement M
 load_spec =

@@ -10,7 +10,7 @@ use Rattle.save.specs.Form.{slips_at}
 use Rattle.save.specs.Saved.{saved_width, written}
 use Rattle.save.specs.declared.form.Form.TheVariants.{New}
 use Rattle.save.proofs.Bodies.{slips_most}
-use Rattle.saving.proofs.Stages.{save_unsound, save-small, save_done, form-stored}
+use Rattle.saving.proofs.Stages.{save_unsound, save_small, save_done, form_stored}
 use borrow.Author.Rules.{rules}
 use Rattle.saving.proofs.save.Statement.{statement}
 use Rattle.saving.proofs.save.Tie as tie
@@ -85,7 +85,7 @@ returns-2 c =
     let a = else.before.before.before.before.before.args in
     let b : Lent = lent a.lines.now a.slips.now a.used.now in
     let small : length a.out.now < saved_width New (used_lines b) (used_slips b) = omega (arith, at-slips at, c.before.if2.true) in
-    rw c.not-saved2.ensures (sym (save-small b a.out.now (is_so else.before.is_sound.ensures else.if1.false) small))
+    rw c.not-saved2.ensures (sym (save_small b a.out.now (is_so else.before.is_sound.ensures else.if1.false) small))
 
 put-lines-requires : tie.Need-put-lines-requires
 unfolding used_lines
@@ -124,7 +124,7 @@ returns-3 c =
     let room : saved_width New (used_lines b) (used_slips b) ≤ length a.out.now = omega (arith, at-slips at, fits.if2.false) in
     sym
     (save_done b a.out.now h room
-    ∙ ap₂ written (rw (c.saved-as.ensures, at-slips at)) (sym (form-stored b a.out.now h) ∙ rw (end.put-end.ensures, slips.put_slips.ensures, lines.put-lines.ensures, at-slips at)))
+    ∙ ap₂ written (rw (c.saved-as.ensures, at-slips at)) (sym (form_stored b a.out.now h) ∙ rw (end.put-end.ensures, slips.put_slips.ensures, lines.put-lines.ensures, at-slips at)))
 
 pub save-spec : {M : Type 1} → statement M
 save-spec =

@@ -12,7 +12,7 @@ use Rattle.writing.specs.Write.{entries, optional_of}
 use Rattle.parts.specs.Loops.{loop_fields}
 use Rattle.parts.specs.Part.{part_width, part_of, parts_of, part_bytes, room_of}
 use Rattle.parts.specs.declared.part.Part.{Part}
-use Rattle.parts.proofs.Series.{to_last, left, fields_left, this-inside, next-inside}
+use Rattle.parts.proofs.Series.{to_last, left, fields_left, this_inside, next_inside}
 use Rattle.unpacking.proofs.Rooms.{rooms_stored, rooms_next, rooms_end}
 use borrow.Author.Rules.{rules}
 use Rattle.unpacking.proofs.fill.Statement.{statement}
@@ -75,7 +75,7 @@ part-of-requires c κs =
     let a = l.before.before.before.before.args in
     let t = a.table.now in
     let k = (a.first + l.loop.j * loop_fields) * entry_width in
-    rw (to_last k t) (rw length-drop (omega arith), this-inside _ t a.n l.loop.j a.first c.before.loop-test.true l.loop.invariant.2)
+    rw (to_last k t) (rw length-drop (omega arith), this_inside _ t a.n l.loop.j a.first c.before.loop-test.true l.loop.invariant.2)
 
 mul-put-part : tie.Need-overflow-mul-put-part invariant-loop decreases-loop
 mul-put-part c = search rules
@@ -98,7 +98,7 @@ loop-again c =
     let h = t.loop-test.true in (
       search rules,
       p.put-part.auto.0 ∙ l.loop.invariant.1,
-      next-inside _ a.table.now a.n l.loop.j a.first h l.loop.invariant.2,
+      next_inside _ a.table.now a.n l.loop.j a.first h l.loop.invariant.2,
       l.loop.invariant.3
           ∙ rooms_next _ a.table.now a.n l.loop.j a.first h l.loop.room
           ∙ rw (← stored p),

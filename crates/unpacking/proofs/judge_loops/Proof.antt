@@ -6,7 +6,7 @@ use lib.ListN.{length}
 use Rattle.cells.proofs.Bools.{is_not, is_so}
 use Rattle.writing.specs.Write.{entries, optional_of}
 use Rattle.parts.specs.Loops.{loop_fields, are_loops, loops_of}
-use Rattle.unpacking.proofs.Judged.{first_few, loops_from, loops_long, from_inside, loops_none, loops-uneven, loops-broken, loops-many, loops_fit}
+use Rattle.unpacking.proofs.Judged.{first_few, loops_from, loops_long, from_inside, loops_none, loops_uneven, loops_broken, loops_many, loops_fit}
 use borrow.Author.Rules.{rules}
 use Rattle.unpacking.proofs.judge_loops.Statement.{statement}
 use Rattle.unpacking.proofs.judge_loops.Tie as tie
@@ -57,7 +57,7 @@ returns c =
 returns-2 : tie.Need-returns-2
 returns-2 c =
     let o = c.before.before in
-    sym (loops-uneven _ _ (left-long o) c.before.if1.false c.if2.true)
+    sym (loops_uneven _ _ (left-long o) c.before.if1.false c.if2.true)
 
 are-loops-requires : tie.Need-are-loops-requires
 are-loops-requires c κs =
@@ -70,12 +70,12 @@ are-loops-requires c κs =
 returns-3 : tie.Need-returns-3
 returns-3 c =
     let e = c.before.before in
-    sym (loops-broken _ _ (left-long e.before.before) e.before.if1.false e.if2.false (is_not (looped c.before) c.if3.true))
+    sym (loops_broken _ _ (left-long e.before.before) e.before.if1.false e.if2.false (is_not (looped c.before) c.if3.true))
 
 returns-4 : tie.Need-returns-4
 returns-4 c =
     let e = c.before.before.before in
-    sym (loops-many _ _ (left-long e.before.before) e.before.if1.false e.if2.false (is_so (looped c.before.before) c.before.if3.false) c.if4.true)
+    sym (loops_many _ _ (left-long e.before.before) e.before.if1.false e.if2.false (is_so (looped c.before.before) c.before.if3.false) c.if4.true)
 
 returns-5 : tie.Need-returns-5
 returns-5 c =

@@ -16,7 +16,7 @@ use Rattle.parts.specs.Read.{loops_judged, outcome}
 use Rattle.parts.specs.declared.answer.PartsRead.{PartsRead}
 use Rattle.parts.specs.declared.answer.Verdict.TheVariants.{Fits}
 use Rattle.unpacking.proofs.Judged.{parts_few, parts_there, parts_from, parts_inside}
-use Rattle.unpacking.proofs.Bundles.{small_room, no_bundle, parts-refused, parts-read, not_read, record-holds, fields-named, fields_inside}
+use Rattle.unpacking.proofs.Bundles.{small_room, no_bundle, parts_refused_law, parts_read_law, not_read, record_holds, fields_named, fields_inside}
 use borrow.Author.Rules.{rules}
 use Rattle.unpacking.proofs.read_parts.Statement.{statement}
 use Rattle.unpacking.proofs.read_parts.Tie as tie
@@ -29,7 +29,7 @@ lent = replicate 288 9999
 holds : (c : tie.Else2) → judged c.before.before.before.before.before.before.before.before.args.s.now ≡ Holds c.before.before.before.check.result.fields
 holds c =
     let k = c.before.before.before in
-    record-holds k.before.before.before.before.before.args.s.now lent (omega arith) k.check.result k.check.new.1.0 k.check.ensures c.if2.false
+    record_holds k.before.before.before.before.before.args.s.now lent (omega arith) k.check.result k.check.new.1.0 k.check.ensures c.if2.false
 
 -- the table names its fields
 named : (c : tie.Else2) → let k = c.before.before.before in
@@ -37,7 +37,7 @@ named : (c : tie.Else2) → let k = c.before.before.before in
     optional_of s (entries k.check.result.fields k.check.new.1.0) ≡ optional_fields k.check.result.fields s
 named c =
     let k = c.before.before.before in
-    fields-named k.before.before.before.before.before.args.s.now lent (omega arith) k.check.result k.check.new.1.0 k.check.ensures c.if2.false
+    fields_named k.before.before.before.before.before.args.s.now lent (omega arith) k.check.result k.check.new.1.0 k.check.ensures c.if2.false
 
 -- with their contents in the record
 inside : (c : tie.Else2) → let k = c.before.before.before in
@@ -142,7 +142,7 @@ returns-4 c =
     let f = b.before in
     let a = f.before.before.before.before.before.before.before.before.args in
     ap (λ (r : PartsRead). outcome r a.room.now) c.read-of3.ensures
-    ∙ sym (parts-refused a.s.now a.room.now f.before.before.before.before.before.if1.false _ (holds f) (is_so b.is-bundle.ensures j.before.before.if3.false) _ (named f) _
+    ∙ sym (parts_refused_law a.s.now a.room.now f.before.before.before.before.before.if1.false _ (holds f) (is_so b.is-bundle.ensures j.before.before.if3.false) _ (named f) _
     (sym j.judge-loops.ensures ∙ c.before.before.r.given.1))
 
 same_length : tie.Need-same-length
@@ -158,7 +158,7 @@ returns-5 c =
     let a = k.before.before.before.before.before.args in
     let m = n.n.given.0.0 in
     let room = rw (← parts_from a.s.now k.check.new.1.0 k.check.result.fields m (verdict n)) at filled.fill.ensures in
-    rw (parts-read a.s.now a.room.now k.before.before.if1.false _ (holds f) (is_so b.is-bundle.ensures n.before.before.before.before.if3.false) _ (named f) m (verdict n))
+    rw (parts_read_law a.s.now a.room.now k.before.before.if1.false _ (holds f) (is_so b.is-bundle.ensures n.before.before.before.before.if3.false) _ (named f) m (verdict n))
     (λ i. outcome (c.read-of4.ensures i) (room i))
 
 pub read-parts-spec : {M : Type 1} → statement M

@@ -6,7 +6,7 @@ use Rattle.record.specs.declared.layout.Kinded.TheVariants.{Known}
 use Rattle.writing.specs.Write.{entries, fields_judged, rest_judged}
 use Rattle.writing.specs.declared.answer.Verdict.{Verdict}
 use Rattle.writing.proofs.Widths.{record_wide, capped_judged}
-use Rattle.writing.proofs.Stages.{many_refused, table-refused, fields-refused, fields_fit}
+use Rattle.writing.proofs.Stages.{many_refused, table_refused, fields_refused, fields_fit}
 use Rattle.writing.proofs.Fitting.{fields_inside}
 use borrow.Author.Rules.{rules}
 use Rattle.writer.proofs.judge_rest.Statement.{statement}
@@ -40,7 +40,7 @@ mul-if2 : tie.Need-overflow-mul-if2
 mul-if2 c = search rules
 
 returns-2 : tie.Need-returns-2
-returns-2 c = rw (known c.before.before) (sym (table-refused _ _ _ _ _ _ c.before.if1.false c.if2.true))
+returns-2 c = rw (known c.before.before) (sym (table_refused _ _ _ _ _ _ c.before.if1.false c.if2.true))
 
 judge-fields-requires : tie.Need-judge-fields-requires
 judge-fields-requires c κs = search rules
@@ -65,7 +65,7 @@ returns-4 : tie.Need-returns-4
 returns-4 c =
     let d = c.before.before.before in
     let e = d.before in
-    rw (known e.before.before) (sym (fields-refused _ _ _ _ _ _ e.before.if1.false e.if2.false _ (said d _ c.before.r.given.1)))
+    rw (known e.before.before) (sym (fields_refused _ _ _ _ _ _ e.before.if1.false e.if2.false _ (said d _ c.before.r.given.1)))
 
 returns-5 : tie.Need-returns-5
 returns-5 c =

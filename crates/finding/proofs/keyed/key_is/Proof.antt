@@ -2,7 +2,7 @@
 use mathlib.Core.Path.{◌∙◌, refl, sym}
 use native.Mathlib.Omega.{arith}
 use Rattle.cells.proofs.Bools.{is_not, is_so}
-use Rattle.finding.proofs.Given.{given_wide, given-key}
+use Rattle.finding.proofs.Given.{given_wide, given_key}
 use borrow.Author.Rules.{rules}
 use Rattle.finding.proofs.keyed.key_is.Statement.{statement}
 use Rattle.finding.proofs.keyed.key_is.Tie as tie
@@ -25,7 +25,7 @@ party-is-requires c κs =
 returns : tie.Need-returns
 returns c =
     let start = c.before.before.before.before.before in
-    sym (given-key start.args.t3 start.requires.1 _ _ start.requires.0 ∙ rw (is_not c.before.party-is.ensures c.if1.true) refl)
+    sym (given_key start.args.t3 start.requires.1 _ _ start.requires.0 ∙ rw (is_not c.before.party-is.ensures c.if1.true) refl)
 
 add-party-is : tie.Need-overflow-add-party-is
 add-party-is c = search rules
@@ -46,7 +46,7 @@ returns-2 : tie.Need-returns-2
 returns-2 c =
     let first = c.before.before.before.before in
     let start = first.before.before.before.before.before in
-    sym (given-key start.args.t3 start.requires.1 _ _ start.requires.0
+    sym (given_key start.args.t3 start.requires.1 _ _ start.requires.0
     ∙ rw (is_so first.before.party-is.ensures first.if1.false, is_not c.before.party-is2.ensures c.if2.true) refl)
 
 add-field-is : tie.Need-overflow-add-field-is
@@ -67,7 +67,7 @@ returns-3 c =
     let first = second.before.before.before.before in
     let start = first.before.before.before.before.before in
     c.field_is.ensures
-    ∙ sym (given-key start.args.t3 start.requires.1 _ _ start.requires.0
+    ∙ sym (given_key start.args.t3 start.requires.1 _ _ start.requires.0
     ∙ rw (is_so first.before.party-is.ensures first.if1.false, is_so second.before.party-is2.ensures second.if2.false) refl)
 
 pub key-is-spec : {M : Type 1} → statement M

@@ -8,7 +8,7 @@ use Rattle.cells.specs.Bytes.{joined}
 use Rattle.cells.specs.Search.{first_from}
 use Rattle.entry.specs.Stored.{key_is}
 use Rattle.cells.proofs.Searches.{first_here, first_next, first_end}
-use Rattle.finding.proofs.Given.{given_wide, field-other}
+use Rattle.finding.proofs.Given.{given_wide, field_other}
 use borrow.Author.Rules.{rules}
 use Rattle.finding.proofs.seek.find_line.Statement.{statement}
 use Rattle.finding.proofs.seek.find_line.Tie as tie
@@ -59,7 +59,7 @@ loop-again c =
     let start = l.before.before.before.before.before.before in
     let told = l.before.word82.ensures in
     let here = c.before.word83.ensures in
-    (omega arith, l.loop.invariant.1 ∙ first_next _ _ l.loop.i (omega arith) (field-other start.args.t3 start.requires.1 _ _ 4 2 _ _ (omega arith) (omega arith) (omega arith) here.1 told.1 c.if1.true here.0 told.0))
+    (omega arith, l.loop.invariant.1 ∙ first_next _ _ l.loop.i (omega arith) (field_other start.args.t3 start.requires.1 _ _ 4 2 _ _ (omega arith) (omega arith) (omega arith) here.1 told.1 c.if1.true here.0 told.0))
 
 mul-word8-2 : tie.Need-overflow-mul-word8-2 invariant-loop decreases-loop
 mul-word8-2 c = omega arith
@@ -79,7 +79,7 @@ loop-again-2 c =
     let start = l.before.before.before.before.before.before in
     let told = l.before.before.before.word8.ensures in
     let here = c.before.word84.ensures in
-    (omega arith, l.loop.invariant.1 ∙ first_next _ _ l.loop.i (omega arith) (field-other start.args.t3 start.requires.1 _ _ 0 0 _ _ (omega arith) (omega arith) (omega arith) here.1 told.1 c.if2.true here.0 told.0))
+    (omega arith, l.loop.invariant.1 ∙ first_next _ _ l.loop.i (omega arith) (field_other start.args.t3 start.requires.1 _ _ 0 0 _ _ (omega arith) (omega arith) (omega arith) here.1 told.1 c.if2.true here.0 told.0))
 
 key-is-requires : tie.Need-key-is-requires invariant-loop decreases-loop
 key-is-requires c κs =

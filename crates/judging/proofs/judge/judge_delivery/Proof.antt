@@ -5,7 +5,7 @@ use Rattle.record.specs.declared.layout.Kind.TheVariants.{Goods}
 use Rattle.book.proofs.Fields.{slip_key_long}
 use Rattle.book.proofs.Finds.{lines_stand, slips_stand, line_stands, slip_stands, line_search, slip_search}
 use Rattle.naming.proofs.Named.{joined_key, wide_key, goods_wide}
-use Rattle.judging.proofs.Stages.{slip_again, slip-unknown, slip-arrives}
+use Rattle.judging.proofs.Stages.{slip_again, slip_unknown, slip_arrives}
 use borrow.Author.Rules.{rules}
 use Rattle.judging.proofs.judge.judge_delivery.Statement.{statement}
 use Rattle.judging.proofs.judge.judge_delivery.Tie as tie
@@ -72,7 +72,7 @@ returns-2 c =
     let line = c.before.before in
     let find = line.before.before.before.before in
     sym
-    (slip-unknown _ _ _ _
+    (slip_unknown _ _ _ _
     (slip_search _ _ _ _ find.find-slip.ensures find.before.slip_key_law.ensures line.before.before.enum_told.given.1)
     (line_search _ _ _ _ line.find-line.ensures (joined_key Goods _ find.before.before.before.goods-key.ensures) c.enum-told2.given.1))
 
@@ -82,7 +82,7 @@ returns-3 c =
     let find = line.before.before.before.before in
     rw c.judge-arrival.ensures
     (sym
-    (slip-arrives _ _ _ _
+    (slip_arrives _ _ _ _
     (slip_search _ _ _ _ find.find-slip.ensures find.before.slip_key_law.ensures line.before.before.enum_told.given.1)
     _ (line_search _ _ _ _ line.find-line.ensures (joined_key Goods _ find.before.before.before.goods-key.ensures) c.before.before.i.given.1)))
 

@@ -4,7 +4,7 @@ use native.Mathlib.Omega.{arith}
 use Rattle.rules.proofs.Parts.{part_most}
 use Rattle.record.specs.declared.layout.Kind.TheVariants.{Goods}
 use Rattle.naming.proofs.Named.{goods_school_is, goods_copies, goods_blank, slip_blank}
-use Rattle.judging.proofs.Stages.{none_copies, some_copies, asked, fit_nothing, goods_none, goods-unnamed, goods-off, goods-on}
+use Rattle.judging.proofs.Stages.{none_copies, some_copies, asked, fit_nothing, goods_none, goods_unnamed, goods_off, goods_on}
 use borrow.Author.Rules.{rules}
 use Rattle.judging.proofs.judge.judge_goods.Statement.{statement}
 use Rattle.judging.proofs.judge.judge_goods.Tie as tie
@@ -48,7 +48,7 @@ returns-3 c =
     let number = some.before.before in
     let e = number.before.before in
     sym
-    (goods-unnamed _ _ _
+    (goods_unnamed _ _ _
     (sym (slip_blank _ e.before.all_of.ensures e.before.before.part.ensures) ∙ e.if1.false)
     (some_copies (goods_copies _ number.Copies-of.ensures number.before.part2.ensures) some.if2.false)
     (sym (goods_blank _ blank.all-of2.ensures blank.before.part3.ensures) ∙ c.if3.true))
@@ -80,7 +80,7 @@ returns-4 c =
     let number = some.before.before in
     let e = number.before.before in
     sym
-    (goods-off _ _ _
+    (goods_off _ _ _
     (sym (slip_blank _ e.before.all_of.ensures e.before.before.part.ensures) ∙ e.if1.false)
     (some_copies (goods_copies _ number.Copies-of.ensures number.before.part2.ensures) some.if2.false)
     (sym (goods_blank _ named.before.all-of2.ensures named.before.before.part3.ensures) ∙ named.if3.false)
@@ -96,7 +96,7 @@ returns-5 c =
     let copies = goods_copies _ number.Copies-of.ensures number.before.part2.ensures in
     rw (c.judge-delivery.ensures, copies)
     (sym
-    (goods-on _ _ _
+    (goods_on _ _ _
     (sym (slip_blank _ e.before.all_of.ensures e.before.before.part.ensures) ∙ e.if1.false)
     (some_copies (goods_copies _ number.Copies-of.ensures number.before.part2.ensures) some.if2.false)
     (sym (goods_blank _ named.before.all-of2.ensures named.before.before.part3.ensures) ∙ named.if3.false)

@@ -3,7 +3,7 @@ use mathlib.Core.Path.{sym, ◌∙◌}
 use native.Mathlib.Omega.{arith}
 use Rattle.rules.proofs.Parts.{part_most}
 use Rattle.naming.proofs.Named.{order_school_is, order_copies, order_blank}
-use Rattle.judging.proofs.Stages.{none_copies, some_copies, asked, order_none, order-unnamed, order-off, order-on}
+use Rattle.judging.proofs.Stages.{none_copies, some_copies, asked, order_none, order_unnamed, order_off, order_on}
 use borrow.Author.Rules.{rules}
 use Rattle.judging.proofs.judge.judge_order.Statement.{statement}
 use Rattle.judging.proofs.judge.judge_order.Tie as tie
@@ -31,7 +31,7 @@ returns-2 c =
     let e = blank.before.before in
     let number = e.before.before in
     sym
-    (order-unnamed _ _ _
+    (order_unnamed _ _ _
     (some_copies (order_copies _ number.Copies-of.ensures number.before.part.ensures) e.if1.false)
     (sym (order_blank _ blank.all_of.ensures blank.before.part2.ensures) ∙ c.if2.true))
 
@@ -61,7 +61,7 @@ returns-3 c =
     let e = named.before.before.before in
     let number = e.before.before in
     sym
-    (order-off _ _ _
+    (order_off _ _ _
     (some_copies (order_copies _ number.Copies-of.ensures number.before.part.ensures) e.if1.false)
     (sym (order_blank _ named.before.all_of.ensures named.before.before.part2.ensures) ∙ named.if2.false)
     (asked _ stand.Standing-on.ensures (stand.before.part3.ensures ∙ sym (order_school_is _)) c.enum_told.given.1))
@@ -75,7 +75,7 @@ returns-4 c =
     let copies = order_copies _ number.Copies-of.ensures number.before.part.ensures in
     rw (c.judge-new-line.ensures, copies)
     (sym
-    (order-on _ _ _
+    (order_on _ _ _
     (some_copies (order_copies _ number.Copies-of.ensures number.before.part.ensures) e.if1.false)
     (sym (order_blank _ named.before.all_of.ensures named.before.before.part2.ensures) ∙ named.if2.false)
     _ (asked _ stand.Standing-on.ensures (stand.before.part3.ensures ∙ sym (order_school_is _)) c.before.before.ceiling.given.1)))

@@ -1,7 +1,7 @@
 -- `judging::judge::judge_report` meets its contract: 12, 24, 16.
 use mathlib.Core.Path.{sym, ◌∙◌}
 use Rattle.naming.proofs.Named.{report_school_is, report_blank}
-use Rattle.judging.proofs.Stages.{asked, report_unnamed, report-off, report-on}
+use Rattle.judging.proofs.Stages.{asked, report_unnamed, report_off, report_on_law}
 use borrow.Author.Rules.{rules}
 use Rattle.judging.proofs.judge.judge_report.Statement.{statement}
 use Rattle.judging.proofs.judge.judge_report.Tie as tie
@@ -37,7 +37,7 @@ returns-2 c =
     let stand = c.before.before in
     let named = stand.before.before in
     sym
-    (report-off _ _ _
+    (report_off _ _ _
     (sym (report_blank _ named.before.all_of.ensures named.before.before.part.ensures) ∙ named.if1.false)
     (asked _ stand.Standing-on.ensures (stand.before.part2.ensures ∙ sym (report_school_is _)) c.enum_told.given.1))
 
@@ -47,7 +47,7 @@ returns-3 c =
     let named = stand.before.before in
     rw c.judge-mark.ensures
     (sym
-    (report-on _ _ _
+    (report_on_law _ _ _
     (sym (report_blank _ named.before.all_of.ensures named.before.before.part.ensures) ∙ named.if1.false)
     _ (asked _ stand.Standing-on.ensures (stand.before.part2.ensures ∙ sym (report_school_is _)) c.before.enum-told2.given.1)))
 

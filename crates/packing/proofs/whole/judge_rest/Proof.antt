@@ -4,7 +4,7 @@ use native.Mathlib.Omega.{arith}
 use Rattle.record.specs.Contents.{no_member}
 use Rattle.writing.specs.Write.{entries, fields_judged}
 use Rattle.writing.specs.declared.answer.Verdict.{Verdict}
-use Rattle.packing.proofs.Rest.{all_many, table-small, first-refused, second-refused, all_fit}
+use Rattle.packing.proofs.Rest.{all_many, table_small, first_refused, second_refused, all_fit}
 use borrow.Author.Rules.{rules}
 use Rattle.packing.proofs.whole.judge_rest.Statement.{statement}
 use Rattle.packing.proofs.whole.judge_rest.Tie as tie
@@ -28,7 +28,7 @@ mul-if2 : tie.Need-overflow-mul-if2
 mul-if2 c = search rules
 
 returns-2 : tie.Need-returns-2
-returns-2 c = sym (table-small _ _ _ _ _ _ _ _ (omega arith) c.if2.true)
+returns-2 c = sym (table_small _ _ _ _ _ _ _ _ (omega arith) c.if2.true)
 
 judge-fields-requires : tie.Need-judge-fields-requires
 judge-fields-requires c κs = search rules
@@ -51,7 +51,7 @@ returns-3 c =
     let d = t.before.before in
     let s = d.before.before.before.before.before.before.before.before in
     let f = c.before.first-fault.ensures in
-    rw f (sym (second-refused _ _ _ _ _ _ _ _ (omega arith) d.before.if2.false s.requires.3 _ (first d _ t.enum_told.given.1) (rw f at c.if3.true)))
+    rw f (sym (second_refused _ _ _ _ _ _ _ _ (omega arith) d.before.if2.false s.requires.3 _ (first d _ t.enum_told.given.1) (rw f at c.if3.true)))
 
 judge-whole-requires : tie.Need-judge-whole-requires
 judge-whole-requires c κs = search rules
@@ -60,7 +60,7 @@ returns-4 : tie.Need-returns-4
 returns-4 c =
     let d = c.before.before.before in
     let s = d.before.before.before.before.before.before.before.before in
-    sym (first-refused _ _ _ _ _ _ _ _ (omega arith) d.before.if2.false s.requires.3 _ (first d _ c.before.r.given.1))
+    sym (first_refused _ _ _ _ _ _ _ _ (omega arith) d.before.if2.false s.requires.3 _ (first d _ c.before.r.given.1))
 
 returns-5 : tie.Need-returns-5
 returns-5 c =

@@ -4,7 +4,7 @@ use native.Mathlib.Omega.{arith}
 use Rattle.writing.specs.declared.answer.Verdict.{Verdict}
 use Rattle.parts.specs.Fields.{lent_fields}
 use Rattle.packing.specs.Judged.{judged_with}
-use Rattle.packing.proofs.Rest.{placed, with_refused, with-fits}
+use Rattle.packing.proofs.Rest.{placed, with_refused, with_fits}
 use borrow.Author.Rules.{rules}
 use Rattle.packing.proofs.whole.write_with.Statement.{statement}
 use Rattle.packing.proofs.whole.write_with.Tie as tie
@@ -53,7 +53,7 @@ returns-2 : tie.Need-returns-2
 returns-2 c =
     let p = c.before.before.before in
     let l = p.before.before.before in
-    rw (c.written-of2.ensures, p.put-with.ensures) (sym (with-fits _ _ _ _ _ _ _ _ (said l.before.before _ l.length.given.1)))
+    rw (c.written-of2.ensures, p.put-with.ensures) (sym (with_fits _ _ _ _ _ _ _ _ (said l.before.before _ l.length.given.1)))
 
 pub write-with-spec : {M : Type 1} → statement M
 write-with-spec =

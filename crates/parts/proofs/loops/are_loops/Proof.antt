@@ -10,7 +10,7 @@ use Rattle.record.specs.Read.{entry_width}
 use Rattle.writing.specs.Widths.{all_inside}
 use Rattle.writing.specs.Write.{entries, optional_of}
 use Rattle.parts.specs.Loops.{loop, loop_fields, is_loop, are_loops}
-use Rattle.parts.proofs.Series.{to_last, left, fields_left, this-inside, next-inside, loops_here, loops_end}
+use Rattle.parts.proofs.Series.{to_last, left, fields_left, this_inside, next_inside, loops_here, loops_end}
 use borrow.Author.Rules.{rules}
 use Rattle.parts.proofs.loops.are_loops.Statement.{statement}
 use Rattle.parts.proofs.loops.are_loops.Tie as tie
@@ -67,7 +67,7 @@ is-loop-requires c κs =
     let a = l.before.before.before.args in
     let t = a.table.now in
     let k = (a.first + l.loop.j * loop_fields) * entry_width in
-    rw (to_last k t) (rw length-drop (omega arith), this-inside _ t a.n l.loop.j a.first c.before.loop-test.true l.loop.invariant.1)
+    rw (to_last k t) (rw length-drop (omega arith), this_inside _ t a.n l.loop.j a.first c.before.loop-test.true l.loop.invariant.1)
 
 returns : tie.Need-returns invariant-loop decreases-loop
 returns c =
@@ -86,7 +86,7 @@ loop-again c =
     let l = c.before.before.before.before in
     let a = l.before.before.before.args in
     let h = c.before.before.before.loop-test.true in
-    (search rules, next-inside _ a.table.now a.n l.loop.j a.first h l.loop.invariant.1, l.loop.invariant.2 ∙ loops_here _ a.table.now a.n l.loop.j a.first h ∙ rw (is_so (looped c.before) c.if1.false))
+    (search rules, next_inside _ a.table.now a.n l.loop.j a.first h l.loop.invariant.1, l.loop.invariant.2 ∙ loops_here _ a.table.now a.n l.loop.j a.first h ∙ rw (is_so (looped c.before) c.if1.false))
 
 returns-2 : tie.Need-returns-2 invariant-loop decreases-loop
 returns-2 c =

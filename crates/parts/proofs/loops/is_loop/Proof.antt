@@ -13,7 +13,7 @@ use Rattle.writing.specs.Write.{entries, optional_of, content_in}
 use Rattle.writing.proofs.Tables.{entry_here}
 use Rattle.writing.proofs.Records.{inside_most, first_inside, rest_inside}
 use Rattle.parts.specs.Loops.{loop, loop_fields, no_member, is_loop}
-use Rattle.parts.proofs.Members.{other_id, not-asked, loop-next, loop_end}
+use Rattle.parts.proofs.Members.{other_id, not_asked, loop_next, loop_end}
 use borrow.Author.Rules.{rules}
 use Rattle.parts.proofs.loops.is_loop.Statement.{statement}
 use Rattle.parts.proofs.loops.is_loop.Tie as tie
@@ -67,7 +67,7 @@ returns-2 c =
     let b = c.before.before.before.before in
     let d = b.before.before.before in
     let l = d.before.before.loop in
-    sym (l.invariant.2 ∙ not-asked _ _ l.i d.before.loop-test.true d.entry_at.result d.entry_at.ensures (b.if1.false ∙ b.before.before.member-id.ensures) (is_not (asked c.before) c.if2.true))
+    sym (l.invariant.2 ∙ not_asked _ _ l.i d.before.loop-test.true d.entry_at.result d.entry_at.ensures (b.if1.false ∙ b.before.before.member-id.ensures) (is_not (asked c.before) c.if2.true))
 
 add-i : tie.Need-overflow-add-i invariant-loop decreases-loop
 add-i c = search rules
@@ -81,7 +81,7 @@ loop-again c =
     let d = b.before.before.before in
     let l = d.before.before.loop in
     let q = entry_here loop_fields l.i _ d.before.loop-test.true d.entry_at.result d.entry_at.ensures in
-    (search rules, rest_inside q _ l.invariant.1, l.invariant.2 ∙ loop-next _ _ l.i d.before.loop-test.true d.entry_at.result d.entry_at.ensures (b.if1.false ∙ b.before.before.member-id.ensures) (is_so (asked c.before) c.if2.false))
+    (search rules, rest_inside q _ l.invariant.1, l.invariant.2 ∙ loop_next _ _ l.i d.before.loop-test.true d.entry_at.result d.entry_at.ensures (b.if1.false ∙ b.before.before.member-id.ensures) (is_so (asked c.before) c.if2.false))
 
 returns-3 : tie.Need-returns-3 invariant-loop decreases-loop
 returns-3 c =

@@ -7,7 +7,7 @@ use lib.Seq.{slice}
 use Rattle.cells.proofs.Bools.{is_not, is_so}
 use Rattle.rules.specs.Rule.{keeps}
 use Rattle.record.specs.Layout.{layout, total}
-use Rattle.record.proofs.Layouts.{head_room, total_here, kept_here, broken-here, broken_past}
+use Rattle.record.proofs.Layouts.{head_room, total_here, kept_here, broken_here, broken_past}
 use Rattle.record.proofs.layout.rest_broken.Goals as goal
 
 pub loop-i-init : goal.loop-i-init
@@ -38,7 +38,7 @@ returns-then-not-keeps_rule c =
     c.keeps_rule.result ≡ keeps f.rule (slice (at + f.size) (at + f.size + 2) s) (slice at (at + f.size) s) = c.keeps_rule.ensures ∙ rw c.part.ensures in
     let l = c.loop-i in
     let a = c.args in
-    omega (arith, broken-here (layout a.k) l.i (in-layout) c.field_of-f.result c.field_of-f.ensures a.s.now l.at (is_not (judged-at) c.if-not-keeps_rule.true))
+    omega (arith, broken_here (layout a.k) l.i (in-layout) c.field_of-f.result c.field_of-f.ensures a.s.now l.at (is_not (judged-at) c.if-not-keeps_rule.true))
 
 pub overflow_add-i : goal.overflow_add-i
 overflow_add-i c =

@@ -9,9 +9,9 @@ use Rattle.save.proofs.form.slips_at.Statement.{statement}
 use Rattle.save.proofs.form.slips_at.Tie as tie
 
 -- the product is where the slips stand
-product : (c : tie.After-line-width) → c.line-width.result * c.before.args.n ≡ slips_at c.before.args.form c.before.args.n
+product : (c : tie.After-line-width) → c.line_width_law.result * c.before.args.n ≡ slips_at c.before.args.form c.before.args.n
 unfolding slips_at
-product c = ap (λ (w : ℕ). w * c.before.args.n) c.line-width.ensures
+product c = ap (λ (w : ℕ). w * c.before.args.n) c.line_width_law.ensures
 
 line-width-requires : tie.Need-line-width-requires
 line-width-requires c κs = search rules

@@ -7,7 +7,7 @@ use Rattle.cells.proofs.Bools.{is_not, is_so}
 use Rattle.record.specs.Contents.{no_member}
 use Rattle.record.specs.Read.{entry_width}
 use Rattle.writing.specs.Write.{entries, fields_judged}
-use Rattle.writing.proofs.Tables.{content-refused, group-refused, field-passed, fields_end}
+use Rattle.writing.proofs.Tables.{content_refused, group_refused, field_passed, fields_end}
 use borrow.Author.Rules.{rules}
 use Rattle.writing.proofs.entries.judge_fields.Statement.{statement}
 use Rattle.writing.proofs.entries.judge_fields.Tie as tie
@@ -31,7 +31,7 @@ returns : tie.Need-returns invariant-loop decreases-loop
 returns c =
     let d = c.before.before in
     let l = d.before.before.loop in
-    sym (l.invariant.1 ∙ content-refused _ l.i _ d.before.loop-test.true d.entry_at.result d.entry_at.ensures _ _ l.before (is_not c.before.keeps_entry.ensures c.if1.true))
+    sym (l.invariant.1 ∙ content_refused _ l.i _ d.before.loop-test.true d.entry_at.result d.entry_at.ensures _ _ l.before (is_not c.before.keeps_entry.ensures c.if1.true))
 
 add-next-id : tie.Need-overflow-add-next-id invariant-loop decreases-loop
 add-next-id c = search rules
@@ -48,7 +48,7 @@ returns-2 c =
     let d = b.before.before in
     let l = d.before.before.loop in
     let a = is_so b.before.keeps_entry.ensures b.if1.false in
-    sym (l.invariant.1 ∙ group-refused _ l.i _ d.before.loop-test.true d.entry_at.result d.entry_at.ensures _ _ l.before a _ c.before.before.next_id_law.ensures (is_not c.before.group-kept.ensures c.if2.true))
+    sym (l.invariant.1 ∙ group_refused _ l.i _ d.before.loop-test.true d.entry_at.result d.entry_at.ensures _ _ l.before a _ c.before.before.next_id_law.ensures (is_not c.before.group-kept.ensures c.if2.true))
 
 add-i : tie.Need-overflow-add-i invariant-loop decreases-loop
 add-i c = search rules
@@ -62,7 +62,7 @@ loop-again c =
     let d = b.before.before in
     let l = d.before.before.loop in
     let a = is_so b.before.keeps_entry.ensures b.if1.false in
-    (search rules, l.invariant.1 ∙ field-passed _ l.i _ d.before.loop-test.true d.entry_at.result d.entry_at.ensures _ _ l.before a _ c.before.before.next_id_law.ensures (is_so c.before.group-kept.ensures c.if2.false))
+    (search rules, l.invariant.1 ∙ field_passed _ l.i _ d.before.loop-test.true d.entry_at.result d.entry_at.ensures _ _ l.before a _ c.before.before.next_id_law.ensures (is_so c.before.group-kept.ensures c.if2.false))
 
 returns-3 : tie.Need-returns-3 invariant-loop decreases-loop
 returns-3 c =

@@ -3,7 +3,7 @@ use mathlib.Core.Path.{sym}
 use native.Mathlib.Omega.{arith}
 use Rattle.cells.proofs.Bools.{is_not, is_so}
 use Rattle.writing.proofs.Records.{inside_most}
-use Rattle.writing.proofs.Contents.{writable_inside, kept-not, kept-so}
+use Rattle.writing.proofs.Contents.{writable_inside, kept_not, kept_so}
 use borrow.Author.Rules.{rules}
 use Rattle.writing.proofs.entries.keeps_entry.Statement.{statement}
 use Rattle.writing.proofs.entries.keeps_entry.Tie as tie
@@ -12,7 +12,7 @@ is-writable-requires : tie.Need-is-writable-requires
 is-writable-requires c κs = search rules
 
 returns : tie.Need-returns
-returns c = sym (kept-not _ _ _ (is_not c.before.is-writable.ensures c.if1.true))
+returns c = sym (kept_not _ _ _ (is_not c.before.is-writable.ensures c.if1.true))
 
 add-part : tie.Need-overflow-add-part
 add-part c =
@@ -30,7 +30,7 @@ returns-2 : tie.Need-returns-2
 returns-2 c =
     let d = c.before.before.before in
     let w = is_so d.before.is-writable.ensures d.if1.false in
-    rw (c.content-kept.ensures, c.before.part.ensures) (sym (kept-so _ _ _ w))
+    rw (c.content-kept.ensures, c.before.part.ensures) (sym (kept_so _ _ _ w))
 
 pub keeps-entry-spec : {M : Type 1} → statement M
 keeps-entry-spec =

@@ -3,7 +3,7 @@ use mathlib.Core.Path.{◌≡◌, ◌∙◌, sym}
 use Rattle.record.specs.Layout.{kind_of}
 use Rattle.record.specs.declared.layout.Kinded.TheVariants.{Known}
 use Rattle.writing.specs.Write.{fixed_judged}
-use Rattle.writing.proofs.Stages.{width_refused, fault-refused, fixed-fits}
+use Rattle.writing.proofs.Stages.{width_refused, fault_refused, fixed_fits}
 use borrow.Author.Rules.{rules}
 use Rattle.writing.proofs.fixed.judge_fixed.Statement.{statement}
 use Rattle.writing.proofs.fixed.judge_fixed.Tie as tie
@@ -41,7 +41,7 @@ returns-2 : tie.Need-returns-2
 returns-2 c =
     let d = c.before.before.before in
     let f = c.before.before.first-faulty.ensures in
-    rw (known d.before, f) (sym (fault-refused _ _ (d.if1.false ∙ d.before.fixed-width.ensures) (λ q. c.if2.true (f ∙ q ∙ sym c.before.field-count.ensures))))
+    rw (known d.before, f) (sym (fault_refused _ _ (d.if1.false ∙ d.before.fixed-width.ensures) (λ q. c.if2.true (f ∙ q ∙ sym c.before.field-count.ensures))))
 
 returns-3 : tie.Need-returns-3
 unfolding fixed_judged
@@ -53,7 +53,7 @@ returns-4 : tie.Need-returns-4
 returns-4 c =
     let d = c.before.before.before in
     let f = c.before.before.first-faulty.ensures in
-    rw (known d.before) (sym (fixed-fits _ _ (d.if1.false ∙ d.before.fixed-width.ensures) (sym f ∙ c.if2.false ∙ c.before.field-count.ensures)))
+    rw (known d.before) (sym (fixed_fits _ _ (d.if1.false ∙ d.before.fixed-width.ensures) (sym f ∙ c.if2.false ∙ c.before.field-count.ensures)))
 
 pub judge-fixed-spec : {M : Type 1} → statement M
 judge-fixed-spec =
