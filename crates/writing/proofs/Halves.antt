@@ -1,6 +1,6 @@
 -- The entries of a table in two parts: the first of them, and those after them.
 use mathlib.Core.Path.{◌≡◌, ◌∙◌, ap, sym, refl}
-use mathlib.Core.Bool.{Bool, true, ◌&&◌}
+use mathlib.Core.Bool.{true, ◌&&◌}
 use mathlib.Core.List.{List, [], ◌∷◌, ◌++◌}
 use Prim.Native.Nat.{ℕ, zero, suc, ◌+◌, ◌*◌}
 use native.Mathlib.Nat.{zero-add, suc-add}
@@ -11,7 +11,7 @@ use Rattle.cells.proofs.Bools.{split, and_left, and_right}
 use Rattle.record.specs.Fields.{Optional}
 use Rattle.record.specs.Read.{entry_width}
 use Rattle.writing.specs.Widths.{all_inside}
-use Rattle.writing.specs.Write.{entry_of, entries, optional_in, optional_of, inside}
+use Rattle.writing.specs.Write.{entries, optional_in, optional_of, inside}
 use Rattle.writing.specs.declared.entries.Entry.{Entry}
 
 -- a table's first n entries are n
