@@ -1,6 +1,6 @@
 -- How wide the values of a typed record are: as the arrays that hold them.
 use mathlib.Core.Path.{◌≡◌}
-use mathlib.Core.List.{List, [], ◌∷◌, map}
+use mathlib.Core.List.{List, [], ◌∷◌}
 use Prim.Native.Nat.{ℕ}
 use lib.ListN.{length, length-append}
 use mir.Val.{Val}
