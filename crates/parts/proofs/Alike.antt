@@ -1,5 +1,5 @@
 -- Entries that name the same fields in two lent contents, inside them or not alike: they are judged alike.
-use mathlib.Core.Path.{◌≡◌, refl, ◌∙◌, ap, sym}
+use mathlib.Core.Path.{◌≡◌, refl, ◌∙◌, ap, sym, subst}
 use mathlib.Core.Bool.{true}
 use mathlib.Core.List.{List, [], ◌∷◌, ◌++◌, map, append_assoc}
 use Prim.Native.Nat.{ℕ, ◌+◌, ◌≤◌}
@@ -105,8 +105,13 @@ listed_names x [] y = (refl, refl)
 listed_names x (f ∷ fs) y =
     let c = f.content in
     let r = contents_of fs ++ y in
+    let whole : x ++ (contents_of (f ∷ fs) ++ y) ≡ (x ++ c) ++ r = ap (λ (z : List ℕ). x ++ z) (append_assoc c (contents_of fs) y) ∙ sym (append_assoc x c r) in
     let ih = listed_names (x ++ c) fs y in
-    let l : length x + length c ≤ length (x ++ (c ++ r)) = simp length-append (omega arith) in (
-      rw (append_assoc c (contents_of fs) y, listed_content x c r, ← append_assoc x c r, ← length-append x c, ih.0),
-      rw (append_assoc c (contents_of fs) y, le-leb (length x + length c) (length (x ++ (c ++ r))) l, ← append_assoc x c r, ← length-append x c) ih.1,
+    let again : (optional_of ((x ++ c) ++ r) (listed_entries (length x + length c) fs) ≡ fs) × (all_inside ((x ++ c) ++ r) (listed_entries (length x + length c) fs) ≡ true) =
+    rw (← length-append x c) ih in
+    let here : slice (length x) (length x + length c) ((x ++ c) ++ r) ≡ c = rw (append_assoc x c r) (listed_content x c r) in
+    let l : length x + length c ≤ length ((x ++ c) ++ r) = simp length-append (omega arith) in
+    subst (λ (z : List ℕ). (optional_of z (listed_entries (length x) (f ∷ fs)) ≡ f ∷ fs) × (all_inside z (listed_entries (length x) (f ∷ fs)) ≡ true)) (sym whole) (
+      rw (here, again.0),
+      rw (le-leb (length x + length c) (length ((x ++ c) ++ r)) l) again.1,
     )

@@ -1,24 +1,20 @@
 -- The members of a loop by their index, and a loop of a table's fields, one field at a time.
-use mathlib.Core.Path.{◌≡◌, ◌∙◌, sym, refl, ap}
-use mathlib.Core.Bool.{Bool, true, false, ◌&&◌, false≢true}
+use mathlib.Core.Path.{◌≡◌, sym, refl}
+use mathlib.Core.Bool.{true, false, ◌&&◌, false≢true}
 use mathlib.Core.List.{List, [], ◌∷◌}
 use Prim.Native.Nat.{ℕ, zero, suc, ◌+◌, ◌-◌, ◌*◌, ◌≤◌, ◌<◌}
 use native.Mathlib.Numerals.{add-one}
-use native.Mathlib.Omega.{arith}
 use borrow.Author.Tests.{eq-eqb, ne_eqb}
-use lib.Dec.{eqb}
-use lib.ListN.{get_or, drop, take, length}
+use lib.ListN.{get_or, drop}
 use lib.Seq.{drop-cons}
-use Rattle.cells.proofs.Bools.{split, and_left, and_right, and_false}
 use Rattle.rules.specs.Rule.{keeps}
 use Rattle.record.specs.Contents.{is_in}
 use Rattle.record.specs.Fields.{Optional}
 use Rattle.record.specs.Read.{entry_width}
-use Rattle.writing.specs.Write.{entry_of, entries, content_in, optional_in, optional_of, inside}
-use Rattle.writing.specs.Widths.{all_inside}
+use Rattle.writing.specs.Write.{entry_of, entries, content_in, optional_in, optional_of}
 use Rattle.writing.specs.declared.entries.Entry.{Entry}
 use Rattle.writing.proofs.Tables.{entry_from, entry_here, entries_end}
-use Rattle.parts.specs.Loops.{Member, loop, loop_fields, part_id, no_member, is_member, is_loop, others_in}
+use Rattle.parts.specs.Loops.{loop, loop_fields, part_id, no_member, is_member, is_loop, others_in}
 use Rattle.parts.specs.Entries.{others_among}
 
 abbrev pub indexes : List ℕ

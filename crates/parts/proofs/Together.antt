@@ -1,6 +1,5 @@
 -- The fields of a table and then more, as the one table of all fields: named, and inside the contents, as those of the table are.
-use mathlib.Core.Path.{◌≡◌, ◌∙◌, ap, ap₂, sym}
-use mathlib.Core.Bool.{true, ◌&&◌}
+use mathlib.Core.Path.{◌≡◌, ap₂}
 use mathlib.Core.List.{List, [], ◌++◌, map}
 use Prim.Native.Nat.{ℕ, ◌+◌, ◌*◌, ◌≤◌}
 use lib.ListN.{length}

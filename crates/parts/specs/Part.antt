@@ -4,7 +4,6 @@ use Rattle.std.proofs.Math.Seq.{slice}
 use Rattle.cells.specs.Bytes.{pick, bytes, same, joined}
 use Rattle.cells.specs.Little.{le_at, le_bytes}
 use Rattle.rules.specs.Values.{price_of}
-use Rattle.rules.specs.declared.amount.Price.{Price}
 use Rattle.record.specs.Fields.{Optional}
 use Rattle.parts.specs.Loops.{loop_fields}
 use Rattle.parts.specs.declared.part.Medium.{Medium}
