@@ -52,6 +52,8 @@ def main():
         for path in files():
             rewrite(path, lambda text: word.sub(lambda m: table[m.group(1)], text))
         return
+    # the pages were not turned before: a name in snake case is as it should be there
+    table = {old: new for old, new in table.items() if re.search("[A-Z-]", old)}
     table.update(names("spelling-kit.txt"))
     # in a page a name stands alone between backquotes, or behind its file: `f`, `crate/proofs/f`
     word = pattern(table, r"(?<![\w'/.-])", r"(?![\w'/.-])")

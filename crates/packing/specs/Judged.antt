@@ -1,4 +1,4 @@
--- What is refused of a record with all fields, those of the table and then more, as the one table that `writeWith` writes.
+-- What is refused of a record with all fields, those of the table and then more, as the one table that `write_with` writes.
 use Rattle.std.specs.Prelude.{ℕ, ◌+◌, List, length}
 use Rattle.record.specs.Fields.{Optional}
 use Rattle.record.specs.declared.layout.Kind.{Kind}

@@ -220,7 +220,7 @@ wrong r n a p = refused fixed_bundle (entry 1003 0 8) 1 r n 1024 a p
 abbrev two : List ℕ
 two = room_of (printed ∷ digital ∷ [])
 
--- the part of `loopText`
+-- the part of `loop_text`
 abbrev small : Part
 small = record {
   tax = 48;

@@ -1,5 +1,4 @@
 // The C library: the calls that the host program links, over byte slices and numbers. A slice is a pointer and a length, `used` one pointer.
-// The checker covers no function with a `&[School]`: `wq_account` is walked by hand.
 #![tactic(auto)]
 
 ghost use Rattle.std.specs.Prelude.{◌≡◌, [], ◌∷◌};
