@@ -4,7 +4,7 @@
 Ran once, right behind the kit's port.py, when the project came to today's Rattle (docs/PORT.md). The names stand in
 spelling.txt beside this file, a line `old new` each. It writes them into specs/, proofs/, the clauses of src/ and the
 must-fail edits of all crates. Types, facts, modules and variants (a capital in front), functions of src/, goals and words
-of the kit are not in the list. A lemma that would have had a definition's name ends in `_law`.
+of the kit are not in the list. A lemma that would have had a definition's name ends in `_law`; five fields of statements have names of their own.
 --pages writes the names into the pages instead, where they stand between backquotes (README.md, docs/): there also those
 that port.py had turned already, which stand in spelling-kit.txt.
 """

@@ -27,7 +27,7 @@ use Rattle.balance.specs.Demand3.{is_order, is_delivery, copies_on, key_fields_i
 use Rattle.balance.proofs.Accepted.{Accepts}
 use Rattle.balance.proofs.Followed.{fit_passed}
 use Rattle.book.proofs.Fields.{fields_wide}
-use Rattle.balance.proofs.Keys.{same_fields_law, school_widths, school_front}
+use Rattle.balance.proofs.Keys.{fields_are_same, school_widths, school_front}
 
 pub record Bookable (s : Met) : Type 0 where
   pub fields : ℕ
@@ -39,7 +39,7 @@ pub record Bookable (s : Met) : Type 0 where
   pub referenced : no_reference kind s.given ≡ false
   pub is_roster : roster_sound s.roster ≡ true
   pub ceiling : ℕ
-  pub on_roster_law : standing s.roster (school_in kind s.given) ≡ On ceiling
+  pub is_on_roster : standing s.roster (school_in kind s.given) ≡ On ceiling
 
 -- an accepted record is
 pub bookable : (s : Met) (b : Lent) → Accepts s b → Bookable s
@@ -55,7 +55,7 @@ bookable s b a =
       referenced = fit.referenced;
       is_roster = a.is_roster;
       ceiling = fit.ceiling;
-      on_roster_law = fit.on_roster_law;
+      is_on_roster = fit.is_on_roster;
     }
 
 -- the seven fields of a record's key have their lengths, and make the key of its line
@@ -94,12 +94,12 @@ module _ (s : Met) (b : Bookable s) where
   school_in_law school =
       let t = keyed s b in
       let two = school_front (key_fields_in s) t.wide in
-      rw (same_fields_law school_widths school (take 2 (key_fields_in s)) two.0, two.1, t.key_is_law) refl
+      rw (fields_are_same school_widths school (take 2 (key_fields_in s)) two.0, two.1, t.key_is_law) refl
 
   pub key_in : (fields : List (List ℕ)) → same_fields fields (key_fields_in s) ≡ are_wide key_widths fields && same (joined fields) (keyIn (fit_of s))
   key_in fields =
       let t = keyed s b in
-      rw (same_fields_law key_widths fields (key_fields_in s) t.wide, t.key_is_law) refl
+      rw (fields_are_same key_widths fields (key_fields_in s) t.wide, t.key_is_law) refl
 
 -- what a record is booked as, by its kind
 pub record BookedAs (s : Met) : Type 0 where
@@ -112,7 +112,7 @@ pub record BookedAs (s : Met) : Type 0 where
 goods_slip : (s : Met) → fixed_width Goods ≤ length s.given → (slip : List (List ℕ))
     → same_fields slip (slip_fields_in s) ≡ are_wide slip_widths slip && same (joined slip) (slip_key s.given)
 unfolding slip_fields_in slip_key layout all
-goods_slip s h slip = rw (same_fields_law slip_widths slip (fields_in Goods slip_fields s.given) (fields_wide Goods s.given h slip_fields refl)) refl
+goods_slip s h slip = rw (fields_are_same slip_widths slip (fields_in Goods slip_fields s.given) (fields_wide Goods s.given h slip_fields refl)) refl
 
 kind_booked : (s : Met) (k : Kind) → fixed_width k ≤ length s.given → nothing_to_book k s.given ≡ false → kind_of s.given ≡ Known k → BookedAs s
 unfolding fit_of fit_kind fit_as isOrdering on_order on_slip has_slip is_order is_delivery copies_on nothing_to_book

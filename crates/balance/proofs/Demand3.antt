@@ -69,7 +69,7 @@ all_answered rooms (s ∷ ss) g kept lent h e = go (refused_or_accepted s g.book
     answered : (book_call s g.book).said.answer ≡ 0
     answered =
         let b = h.0 in
-        numbers_agree s g.book b.fields b.kind b.ceiling b.is_roster kept.is_sound b.read b.known b.something b.copies b.referenced b.on_roster_law
+        numbers_agree s g.book b.fields b.kind b.ceiling b.is_roster kept.is_sound b.read b.known b.something b.copies b.referenced b.is_on_roster
         ∙ rw (lent, first_accepted rooms (fit_of s) (map fit_of ss) (state_told g) e) refl
 
     go : Refuses (book_call s g.book) g.book ⊎ Accepts s g.book

@@ -141,7 +141,7 @@ acceptable s b a =
       copies = fit.copies;
       referenced = fit.referenced;
       ceiling = fit.ceiling;
-      on_roster_law = on_roster_so s.roster (school_in k s.given) fit.ceiling fit.on_roster_law;
+      is_on_roster = on_roster_so s.roster (school_in k s.given) fit.ceiling fit.is_on_roster;
       passes = passes_so s.given fit.ceiling b k a.place fit.judged_fit;
     }
 
@@ -153,7 +153,7 @@ accepted_exactly s b =
       all_acceptable = λ a.
           let r = record_fits s.given a.is_record in
           fit_answer s b r.0 a.kind a.ceiling a.is_roster a.is_sound r.1 a.named a.something a.copies a.referenced
-          (on_roster_is s.roster (school_in a.kind s.given) a.ceiling a.on_roster_law)
+          (on_roster_is s.roster (school_in a.kind s.given) a.ceiling a.is_on_roster)
           ∙ passes_fits s.given a.ceiling b a.kind a.passes;
     }
   where

@@ -62,7 +62,7 @@ pub record FitPassed (k : Kind) (s roster : List ℕ) (b : Lent) (i : ℕ) : Typ
   pub copies : no_copies k s ≡ false
   pub referenced : no_reference k s ≡ false
   pub ceiling : ℕ
-  pub on_roster_law : standing roster (school_in k s) ≡ On ceiling
+  pub is_on_roster : standing roster (school_in k s) ≡ On ceiling
   pub judged_fit : book_judged k s ceiling b ≡ Fits i
 
 pub fit_passed : (k : Kind) (s roster : List ℕ) (b : Lent) (i : ℕ) → fit_judged k s roster b ≡ Fits i → FitPassed k s roster b i
@@ -77,7 +77,7 @@ fit_passed k s roster b i e =
         → (t : Standing) → standing roster (school_in k s) ≡ t → on_roster k s b t ≡ Fits i → FitPassed k s roster b i
     go one two three Off h q = unfold on_roster in let z : ◌≡◌ {A = ℕ} 0 1 = cc in absurd (omega arith)
     go one two three (On ceiling) h q =
-        unfold on_roster in record { something = one; copies = two; referenced = three; ceiling = ceiling; on_roster_law = h; judged_fit = q }
+        unfold on_roster in record { something = one; copies = two; referenced = three; ceiling = ceiling; is_on_roster = h; judged_fit = q }
 
 module _ (b : Lent) (i : ℕ) where
   -- an order that fits: no line has its key, its copies keep the ceiling, and there is room for the next line
@@ -259,7 +259,7 @@ module _ (s roster : List ℕ) (b : Lent) (i n : ℕ) (k : Kept b) where
       let heads = school_heads s (omega (arith, fit.wide)) in
       let below : open_copies b (school_of (line_key Order s)) + (copies_in Order s).0 ≤ p.ceiling = rw heads at q.1.0 in
       let d = q.1.1.1 in
-      rw (d, p.on_roster_law)
+      rw (d, p.is_on_roster)
       (order_entered b (line_key Order s) (article_in Order s) (copies_in Order s) k (order_key s n fit) (order_named s n fit) (omega arith) (order_copies s n fit) p.ceiling q.0 below q.1.1.0)
 
   goods_follows : Fitting Goods s n → fit_judged Goods s roster b ≡ Fits i → Follows b (fit_as Goods s roster) (lent_after Goods s b i)

@@ -20,16 +20,16 @@ use Rattle.book.proofs.Fields.{fields_wide}
 use Rattle.balance.specs.Demand3.{same_fields}
 
 -- fields that are the same as fields of these lengths have these lengths, and make the same key
-pub same_fields_law : (ws : List ℕ) (fs gs : List (List ℕ)) → are_wide ws gs ≡ true → same_fields fs gs ≡ are_wide ws fs && same (joined fs) (joined gs)
+pub fields_are_same : (ws : List ℕ) (fs gs : List (List ℕ)) → are_wide ws gs ≡ true → same_fields fs gs ≡ are_wide ws fs && same (joined fs) (joined gs)
 unfolding are_wide same_fields joined
-same_fields_law [] [] [] h = unfold same in refl
-same_fields_law [] (f ∷ fs) [] h = refl
-same_fields_law [] fs (g ∷ gs) h = absurd (let z : ◌≡◌ {A = ℕ} 0 1 = cc in omega arith)
-same_fields_law (w ∷ ws) fs [] h = absurd (let z : ◌≡◌ {A = ℕ} 0 1 = cc in omega arith)
-same_fields_law (w ∷ ws) [] (g ∷ gs) h = refl
-same_fields_law (w ∷ ws) (f ∷ fs) (g ∷ gs) h =
+fields_are_same [] [] [] h = unfold same in refl
+fields_are_same [] (f ∷ fs) [] h = refl
+fields_are_same [] fs (g ∷ gs) h = absurd (let z : ◌≡◌ {A = ℕ} 0 1 = cc in omega arith)
+fields_are_same (w ∷ ws) fs [] h = absurd (let z : ◌≡◌ {A = ℕ} 0 1 = cc in omega arith)
+fields_are_same (w ∷ ws) [] (g ∷ gs) h = refl
+fields_are_same (w ∷ ws) (f ∷ fs) (g ∷ gs) h =
     let long = eqb-true (length g) w (and_left (eqb (length g) w) (are_wide ws gs) h) in
-    let ih = same_fields_law ws fs gs (and_right (eqb (length g) w) (are_wide ws gs) h) in
+    let ih = fields_are_same ws fs gs (and_right (eqb (length g) w) (are_wide ws gs) h) in
     split (eqb (length f) w)
     (λ t.
     let e = eqb-true (length f) w t in

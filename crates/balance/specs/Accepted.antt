@@ -74,7 +74,7 @@ pub record Acceptable (s : Met) (b : Lent) : Type 0 where
   pub referenced : no_reference kind s.given ≡ false
   -- 24
   pub ceiling : ℕ
-  pub on_roster_law : OnRoster s.roster (school_in kind s.given) ceiling
+  pub is_on_roster : OnRoster s.roster (school_in kind s.given) ceiling
   -- 14 to 19, 21 and 25, as its kind has them
   pub passes : Passes kind s.given ceiling b
 

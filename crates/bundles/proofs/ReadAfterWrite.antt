@@ -112,7 +112,7 @@ module _ (fixed table : List ℕ) (count : ℕ) (contents parts : List ℕ) (n :
     none = none_begun fixed table count n c.listed contents (neither (eqb n 0) (has_loop table count) some_begun).1
 
     before_parts : others_in fields ≡ count
-    before_parts = others_append body more (none ∙ sym as_many) ∙ rw (loops_first n more some c.are_loops_law) (omega (arith, as_many))
+    before_parts = others_append body more (none ∙ sym as_many) ∙ rw (loops_first n more some c.loops_stand) (omega (arith, as_many))
 
     parted : Bundled fields n
     parted = record {
@@ -123,7 +123,7 @@ module _ (fixed table : List ℕ) (count : ℕ) (contents parts : List ℕ) (n :
       some = some;
       few = c.few;
       so_many = lent_long n parts 0;
-      are_loops_law = c.are_loops_law;
+      loops_stand = c.loops_stand;
     }
 
   -- of what is none
@@ -157,7 +157,7 @@ module _ (fixed table : List ℕ) (count : ℕ) (contents parts : List ℕ) (n :
         let ps = parts_of n more in
         let there : (parts_call text room).room ≡ room_of ps ++ drop (n * part_width) room =
         ap (λ (o : Read). o.room) reads_so ∙ ap (λ (fs : List Optional). room_of (parts_of n fs) ++ drop (n * part_width) room) loops in
-        let back : lent_parts (length ps) (parts_call text room).room 0 ≡ ps = parts_stored ps (parts_call text room).room 0 (drop (n * part_width) room) (all_stored n more c.are_loops_law sound) there in
+        let back : lent_parts (length ps) (parts_call text room).room 0 ≡ ps = parts_stored ps (parts_call text room).room 0 (drop (n * part_width) room) (all_stored n more c.loops_stand sound) there in
         subst (λ (m : ℕ). lent_parts m (parts_call text room).room 0 ≡ ps) (parts_length n more) back ∙ lent_back n parts 0 (omega (arith, c.lent)) sound)
         (λ b. subst (λ (m : ℕ). lent_parts m (parts_call text room).room 0 ≡ lent_parts m parts 0) (sym (no_parts b)) refl)
 
@@ -167,7 +167,7 @@ module _ (fixed table : List ℕ) (count : ℕ) (contents parts : List ℕ) (n :
   text_back = record {
     same_fixed = take-append_seam fixed (optional_text fields);
     same_parts = record { reads = λ room h. ap (λ (o : Read). o.said) (reads_so room h); same_parts = parts_same };
-    same_fields_law = whole_tabled kind fixed fields whole;
+    fields_are_same = whole_tabled kind fixed fields whole;
     as_many = as_many;
     before_parts = before_parts;
   }

@@ -122,7 +122,7 @@ module _ (s : List ℕ) (count : ℕ) where
     some = l.some;
     few = l.few;
     so_many = l.long;
-    are_loops_law = l.are;
+    loops_stand = l.are;
   }
 
   -- and a bundle of n parts is judged as them
@@ -130,9 +130,9 @@ module _ (s : List ℕ) (count : ℕ) where
   unfolding parts_judged loops_of
   bundle_judged n b w =
       let o : others_in fields ≡ length w.others =
-      ap others_in w.in_order ∙ others_append w.others w.loops w.none_begins ∙ rw (loops_first n w.loops w.some w.are_loops_law) (omega arith) in
+      ap others_in w.in_order ∙ others_append w.others w.loops w.none_begins ∙ rw (loops_first n w.loops w.some w.loops_stand) (omega arith) in
       let d : drop (others_in fields) fields ≡ w.loops = ap (λ (k : ℕ). drop k fields) o ∙ ap (drop (length w.others)) w.in_order ∙ drop_at w.others w.loops (length w.others) refl in
-      rw (b, d) (loops_fit n w.loops w.some w.few w.so_many w.are_loops_law)
+      rw (b, d) (loops_fit n w.loops w.some w.few w.so_many w.loops_stand)
 
 -- a check of a record that fits finds its fields
 pub fits_tabled : (s : List ℕ) (count : ℕ) → judged s ≡ Holds count → Tabled s (optional_fields count s)
@@ -140,7 +140,7 @@ fits_tabled s count e =
     let c = count_is s count in
     record {
       reads = λ lent h. fits_said s lent h count e ∙ ap (λ (k : ℕ). checked_of (Holds k)) (sym c);
-      same_fields_law = λ lent h. ap (λ (k : ℕ). optional_of s (entries k (read_call s lent).table)) c ∙ fits_table s lent h count e;
+      fields_are_same = λ lent h. ap (λ (k : ℕ). optional_of s (entries k (read_call s lent).table)) c ∙ fits_table s lent h count e;
     }
 
 -- reading parts answers 0 for the texts of records that are no bundle or a bundle as it should be, where the room is large, and for nothing else
@@ -155,7 +155,7 @@ parts_read_exactly s room = record { only_records = only; all_records = all }
           fits_record s d.count d.fits,
           subst (Parted s) (sym said) (record {
             count = d.count;
-            same_fields_law = fits_tabled s d.count d.fits;
+            fields_are_same = fits_tabled s d.count d.fits;
             bundle = λ b. bundled s d.count d.n (judged_bundle s d.count d.n d.parts b);
             no_bundle = judged_none s d.count d.n d.parts;
           }),
@@ -163,7 +163,7 @@ parts_read_exactly s room = record { only_records = only; all_records = all }
 
     all : LargeRoom room → (n : ℕ) → IsRecord s → Parted s n → (parts_call s room).said ≡ read_of (Fits n)
     all h n r p =
-        let f = tabled_fits s (optional_fields p.count s) p.same_fields_law ∙ ap Holds (count_is s p.count) in
+        let f = tabled_fits s (optional_fields p.count s) p.fields_are_same ∙ ap Holds (count_is s p.count) in
         let j : parts_judged (is_bundle s) (optional_fields p.count s) ≡ Fits n =
         split (is_bundle s) (λ b. bundle_judged s p.count n b (p.bundle b)) (λ b. none_judged s p.count n b (p.no_bundle b)) in
         ap (λ (o : Outcome). o.said) (read_fits s room h p.count f n j)

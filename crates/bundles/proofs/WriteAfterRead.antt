@@ -125,7 +125,7 @@ module _ (k : Kind) (s table room out : List ℕ) (g : kind_of s ≡ Known k) (a
         few = most;
         lent = wide;
         placed = placed;
-        are_loops_law = ap (are_loops n) behind ∙ loops;
+        loops_stand = ap (are_loops n) behind ∙ loops;
         listed = own_listed;
         inside = own_inside;
         makes = subst (Makes fixed) (sym together) makes;

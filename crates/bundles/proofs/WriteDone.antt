@@ -80,7 +80,7 @@ module _ (fixed table : List ℕ) (count : ℕ) (contents parts : List ℕ) (n :
           few = t.few;
           lent = t.lent;
           placed = t.placed;
-          are_loops_law = t.loops;
+          loops_stand = t.loops;
           listed = h;
           inside = sym (inside_together table contents count more h) ∙ c.lent;
           makes = subst (Makes fixed) named c.makes;
@@ -101,7 +101,7 @@ module _ (fixed table : List ℕ) (count : ℕ) (contents parts : List ℕ) (n :
         makes = subst (Makes fixed) (sym named) c.makes;
         room = subst (λ (fs : List Optional). length (record_text fixed fs) ≤ length out) (sym named) c.room;
       } in
-      parts_taken fixed table count contents parts n out c.few c.lent c.placed c.are_loops_law
+      parts_taken fixed table count contents parts n out c.few c.lent c.placed c.loops_stand
       ∙ (write_exactly fixed (table_with more table count) (count + length more) (contents_with more contents) out).all_records w
       ∙ ap (λ (fs : List Optional). outcome (record { answer = 0; place = 0; length = length (record_text fixed fs) }) (record_text fixed fs ++ drop (length (record_text fixed fs)) out)) named
 

@@ -38,12 +38,12 @@ pub record Bundled (fields : List Optional) (n : ℕ) : Type 0 where
   pub some : 1 ≤ n
   pub few : n ≤ most_parts
   pub so_many : length loops ≡ n * loop_fields
-  pub are_loops_law : are_loops n loops ≡ true
+  pub loops_stand : are_loops n loops ≡ true
 
 -- what a record has to be for n parts to be read from it: a bundle of them, or no bundle and none
 pub record Parted (s : List ℕ) (n : ℕ) : Type 0 where
   pub count : ℕ
-  pub same_fields_law : Tabled s (optional_fields count s)
+  pub fields_are_same : Tabled s (optional_fields count s)
   pub bundle : is_bundle s ≡ true → Bundled (optional_fields count s) n
   pub no_bundle : is_bundle s ≡ false → n ≡ 0
 
@@ -62,7 +62,7 @@ pub record CanWriteParts (fixed table : List ℕ) (count : ℕ) (contents parts 
   pub few : n ≤ most_parts
   pub lent : n * part_width ≤ length parts
   pub placed : is_misplaced fixed table count n ≡ false
-  pub are_loops_law : are_loops n (lent_fields n parts 0) ≡ true
+  pub loops_stand : are_loops n (lent_fields n parts 0) ≡ true
   pub listed : count * entry_width ≤ length table
   pub inside : all_inside contents (entries count table) ≡ true
   pub makes : Makes fixed (optional_of contents (entries count table) ++ lent_fields n parts 0)
@@ -81,7 +81,7 @@ pub record PartsWriteExactly (fixed table : List ℕ) (count : ℕ) (contents pa
 pub record PartsReadBack (fixed table : List ℕ) (count : ℕ) (contents parts : List ℕ) (n : ℕ) (text : List ℕ) : Type 0 where
   pub same_fixed : take (length fixed) text ≡ fixed
   pub same_parts : PartsBack text n (lent_parts n parts 0)
-  pub same_fields_law : Tabled text (optional_of contents (entries count table) ++ lent_fields n parts 0)
+  pub fields_are_same : Tabled text (optional_of contents (entries count table) ++ lent_fields n parts 0)
   -- those of the table are as many as were given, and none of a bundle's begins a loop
   pub as_many : length (optional_of contents (entries count table)) ≡ count
   pub before_parts : is_bundle fixed ≡ true → others_in (optional_of contents (entries count table) ++ lent_fields n parts 0) ≡ count

@@ -70,8 +70,8 @@ makes : (r : Parts) → kind_of (fixed_part r) ≡ Known r.kind → fixed_kept (
     → all (belongs Allowed) (text_of r) ≡ true → MakesRecord r
 makes r n f o m l a = record {
   named = n;
-  fixed_kept_law = f;
-  optional_kept_law = o;
+  fixed_is_kept = f;
+  optional_is_kept = o;
   few = omega (arith, leb-true (length r.optional) most_fields m);
   short = omega (arith, leb-true (length (text_of r)) most_bytes l);
   allowed = a;
@@ -89,14 +89,14 @@ computed = record {
   all_bytes = makes (ordering (letters 947)) refl refl refl refl refl refl;
   marks = makes (ordering marked) refl refl refl refl refl refl;
   other_kind = λ m. let e = m.named in let z : ◌≡◌ {A = ℕ} 0 1 = cc in omega arith;
-  check_digit = λ m. false≢true m.fixed_kept_law;
-  field_more = λ m. false≢true m.fixed_kept_law;
-  field_less = λ m. false≢true m.fixed_kept_law;
-  star = λ m. false≢true m.optional_kept_law;
-  last_id_law = λ m. false≢true m.optional_kept_law;
-  empty = λ m. false≢true m.optional_kept_law;
-  group = λ m. false≢true m.optional_kept_law;
-  split_group = λ m. false≢true m.optional_kept_law;
+  check_digit = λ m. false≢true m.fixed_is_kept;
+  field_more = λ m. false≢true m.fixed_is_kept;
+  field_less = λ m. false≢true m.fixed_is_kept;
+  star = λ m. false≢true m.optional_is_kept;
+  last_id_law = λ m. false≢true m.optional_is_kept;
+  empty = λ m. false≢true m.optional_is_kept;
+  group = λ m. false≢true m.optional_is_kept;
+  split_group = λ m. false≢true m.optional_is_kept;
   many = λ m. omega (arith, m.few);
   long = λ m. omega (arith, m.short);
   byte = λ m. false≢true m.allowed;

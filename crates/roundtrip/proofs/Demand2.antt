@@ -77,7 +77,7 @@ module _ (fixed table : List ℕ) (count : ℕ) (contents text : List ℕ) (b : 
 
   -- it fits with as many optional fields as were given
   fits : judged text ≡ Fits count
-  fits = tabled_fits text (optional_of contents (entries count table)) b.same_fields_law ∙ ap Fits b.as_many
+  fits = tabled_fits text (optional_of contents (entries count table)) b.fields_are_same ∙ ap Fits b.as_many
 
   fixed_allowed : all (belongs Allowed) fixed ≡ true
   fixed_allowed =
@@ -107,7 +107,7 @@ module _ (table : List ℕ) (count : ℕ) (contents out : List ℕ) where
       let f = in_front (order_bytes o) table count contents _ b in
       let a = named (bytes "B101") _ count (fits (order_bytes o) table count contents _ b) (ap (slice 0 4) f) in
       let v = ap order_of f ∙ order_values o _ h (fixed_allowed (order_bytes o) table count contents _ b) in
-      record { reads = order_read _ count a ∙ ap (λ (x : Order). record { checked = checked_of (Fits count); order = x }) v; fields = b.same_fields_law }
+      record { reads = order_read _ count a ∙ ap (λ (x : Order). record { checked = checked_of (Fits count); order = x }) v; fields = b.fields_are_same }
 
   pub delivery_reads_back : (d : Delivery) → DeliveryShaped d → (write_call (delivery_bytes d) table count contents out).said.answer ≡ 0 → DeliveryReadsBack d table count contents out
   unfolding delivery_bytes delivery_fields joined
@@ -116,7 +116,7 @@ module _ (table : List ℕ) (count : ℕ) (contents out : List ℕ) where
       let f = in_front (delivery_bytes d) table count contents _ b in
       let a = named (bytes "L101") _ count (fits (delivery_bytes d) table count contents _ b) (ap (slice 0 4) f) in
       let v = ap delivery_of f ∙ delivery_values d _ h (fixed_allowed (delivery_bytes d) table count contents _ b) in
-      record { reads = delivery_read _ count a ∙ ap (λ (x : Delivery). record { checked = checked_of (Fits count); delivery = x }) v; fields = b.same_fields_law }
+      record { reads = delivery_read _ count a ∙ ap (λ (x : Delivery). record { checked = checked_of (Fits count); delivery = x }) v; fields = b.fields_are_same }
 
   pub report_reads_back : (m : Report) → ReportShaped m → (write_call (report_bytes m) table count contents out).said.answer ≡ 0 → ReportReadsBack m table count contents out
   unfolding report_bytes report_fields joined
@@ -125,7 +125,7 @@ module _ (table : List ℕ) (count : ℕ) (contents out : List ℕ) where
       let f = in_front (report_bytes m) table count contents _ b in
       let a = named (bytes "M101") _ count (fits (report_bytes m) table count contents _ b) (ap (slice 0 4) f) in
       let v = ap report_of f ∙ report_values m _ h (fixed_allowed (report_bytes m) table count contents _ b) in
-      record { reads = report_read _ count a ∙ ap (λ (x : Report). record { checked = checked_of (Fits count); report = x }) v; fields = b.same_fields_law }
+      record { reads = report_read _ count a ∙ ap (λ (x : Report). record { checked = checked_of (Fits count); report = x }) v; fields = b.fields_are_same }
 
 -- a typed record is read with what its verdict says
 order_checked : (v : Verdict) (s : List ℕ) → (order_from v s).checked ≡ checked_of v

@@ -28,7 +28,7 @@ module _ (fixed table : List ℕ) (count : ℕ) (contents out : List ℕ) (e : (
   unfolding record_text
   text_back = record {
     same_fixed = take-append_seam fixed (optional_text (optional_of contents (entries count table)));
-    same_fields_law = whole_tabled can.makes.parts.kind fixed (optional_of contents (entries count table)) (made_whole fixed (optional_of contents (entries count table)) can.makes);
+    fields_are_same = whole_tabled can.makes.parts.kind fixed (optional_of contents (entries count table)) (made_whole fixed (optional_of contents (entries count table)) can.makes);
     as_many = as_many fixed table count contents out;
   }
 

@@ -131,7 +131,7 @@ module _ (k : Kind) (fixed : List ℕ) (fs : List Optional) (w : Whole k fixed f
   pub whole_tabled : Tabled text fs
   whole_tabled = record {
     reads = λ lent h. fits_said text lent h (length fs) whole_fits;
-    same_fields_law = λ lent h. fits_table text lent h (length fs) whole_fits ∙ whole_fields;
+    fields_are_same = λ lent h. fits_table text lent h (length fs) whole_fits ∙ whole_fields;
   }
 
 -- of parts that make a record reading finds the kind, the fixed part and the optional fields

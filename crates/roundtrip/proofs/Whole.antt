@@ -33,9 +33,9 @@ pub parts_whole : (r : Parts) → MakesRecord r → Whole r.kind (fixed_part r) 
 unfolding fixed_width
 parts_whole r m = record {
   named = m.named;
-  wide = kept_length (layout r.kind) r.fixed m.fixed_kept_law;
-  unbroken = kept_whole (layout r.kind) r.fixed m.fixed_kept_law;
-  kept = m.optional_kept_law;
+  wide = kept_length (layout r.kind) r.fixed m.fixed_is_kept;
+  unbroken = kept_whole (layout r.kind) r.fixed m.fixed_is_kept;
+  kept = m.optional_is_kept;
   few = omega arith;
   short = omega arith;
   allowed = m.allowed;
@@ -56,8 +56,8 @@ module _ (fixed : List ℕ) (fs : List Optional) where
         parts = record { kind = k; fixed = fields_from (layout k) 0 fixed; optional = fs };
         makes = record {
           named = ap kind_of (sym same) ∙ w.named;
-          fixed_kept_law = fields_kept_law k fixed w.wide w.unbroken;
-          optional_kept_law = w.kept;
+          fixed_is_kept = fields_kept_law k fixed w.wide w.unbroken;
+          optional_is_kept = w.kept;
           few = w.few;
           short = subst (λ (x : List ℕ). length (record_text x fs) ≤ most_bytes) same w.short;
           allowed = ap (λ (x : List ℕ). all (belongs Allowed) (record_text x fs)) (sym same) ∙ w.allowed;

@@ -34,7 +34,7 @@ LargeTable lent = most_fields * entry_width ≤ length lent
 -- a check of a text with any large table is done, and fills the table so that the IDs and contents it names in the text are these, in order
 pub record Tabled (text : List ℕ) (fields : List Optional) : Type 0 where
   pub reads : (lent : List ℕ) → LargeTable lent → (read_call text lent).said ≡ checked_of (Fits (length fields))
-  pub same_fields_law : (lent : List ℕ) → LargeTable lent → optional_of text (entries (length fields) (read_call text lent).table) ≡ fields
+  pub fields_are_same : (lent : List ℕ) → LargeTable lent → optional_of text (entries (length fields) (read_call text lent).table) ≡ fields
 
 -- READ EXACTLY: the check answers 0 for the texts of records, where the table is large, and for nothing else
 pub record ReadExactly (s lent : List ℕ) : Type 0 where
@@ -58,7 +58,7 @@ pub record WriteExactly (fixed table : List ℕ) (count : ℕ) (contents out : L
 -- READ AFTER WRITE: a text that was written begins with the fixed part, and a check of it finds the IDs and contents that were given, in order
 pub record ReadsBack (fixed table : List ℕ) (count : ℕ) (contents text : List ℕ) : Type 0 where
   pub same_fixed : take (length fixed) text ≡ fixed
-  pub same_fields_law : Tabled text (optional_of contents (entries count table))
+  pub fields_are_same : Tabled text (optional_of contents (entries count table))
   pub as_many : length (optional_of contents (entries count table)) ≡ count
 
 -- WRITE AFTER READ: what writing says of a record s that was read, with the table that the check filled and the record itself as lent contents: done, and the same bytes stand at the front of the output

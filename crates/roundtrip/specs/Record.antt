@@ -56,8 +56,8 @@ optional_kept k before (f ∷ fs) =
 -- the parts make a record: the fixed part names the kind and keeps its layout, the optional fields are kept and at most so many, the whole is at most so long, and every byte is allowed
 pub record MakesRecord (r : Parts) : Type 0 where
   pub named : kind_of (fixed_part r) ≡ Known r.kind
-  pub fixed_kept_law : fixed_kept (layout r.kind) r.fixed ≡ true
-  pub optional_kept_law : optional_kept r.kind no_member r.optional ≡ true
+  pub fixed_is_kept : fixed_kept (layout r.kind) r.fixed ≡ true
+  pub optional_is_kept : optional_kept r.kind no_member r.optional ≡ true
   pub few : length r.optional ≤ most_fields
   pub short : length (text_of r) ≤ most_bytes
   pub allowed : all (belongs Allowed) (text_of r) ≡ true
