@@ -16,7 +16,6 @@ use Rattle.entry.specs.Stored.{ordered_at, most_copies}
 use Rattle.save.specs.Form.{line_kind, line_body_width, front_of, kind_byte, saved_line_width}
 use Rattle.save.specs.Entries.{reference_at, line_fields, fields_kept, report_kept, line_kept}
 use Rattle.save.specs.Saved.{refused_number, not_saved, saved_as, stated_lines, stated_slips, body_in, line_in, is_save_of}
-use Rattle.save.specs.Load.{load}
 use Rattle.save.specs.Moves.{moved, moved_width, moved_into, to_new, is_numbered, none_numbered, to_old}
 use Rattle.save.specs.declared.form.Form.{Form}
 use Rattle.save.specs.declared.form.Form.TheVariants.{Old, New}
