@@ -1,6 +1,6 @@
 -- The cases of parts hold of the definitions, by computation.
 use mathlib.Core.Path.{◌≡◌, refl}
-use mathlib.Core.List.{List, [], ◌∷◌}
+use mathlib.Core.List.{[], ◌∷◌}
 use lib.ListN.{replicate}
 use Rattle.cells.specs.Bytes.{all, any, run, same, among, joined}
 use Rattle.cells.specs.Little.{le_at, le_bytes}
@@ -24,7 +24,6 @@ use Rattle.parts.specs.Read.{loops_judged, parts_judged, room_after, bundle_read
 use Rattle.parts.specs.Entries.{others_among}
 use Rattle.parts.specs.Write.{contents_of, listed, moved, entries_there, write_with, has_loop, is_misplaced, is_broken, parts_refused, written_with, write_parts}
 use Rattle.parts.specs.Cases.{bundle001, bundle004, printed, digital, readings, first_misread, bundle_room, writings, first_miswritten}
-use Rattle.parts.specs.declared.part.Part.{Part}
 
 pub record Computed : Type 0 where
   -- the number of the first case that is wrong is 0 in each table
