@@ -66,6 +66,11 @@ pub closing_so : (s roster : List ℕ) (b : Lent) → book_as Closing s roster b
 unfolding book_as settled fit_judged nothing_to_book
 closing_so s roster b = refl
 
+-- a closing record is not booked
+pub book_closing : (s roster : List ℕ) (b : Lent) → roster_sound roster && sound b ≡ true → (n : ℕ) → judged s ≡ ReadFits n → kind_of s ≡ Known Closing
+    → book s roster b ≡ outcome (not_booked NothingToBook) b
+book_closing s roster b h n e g = book_known s roster b h n e Closing g ∙ closing_so s roster b
+
 -- the book takes a record under some ceiling
 pub record Bookable (k : Kind) (s : List ℕ) (b : Lent) (i : ℕ) : Type 0 where
   pub ceiling : ℕ

@@ -72,6 +72,7 @@ fn are_sound(roster: &[u8], lines: &[u8], slips: &[u8], used: &[usize; 2]) -> bo
 }
 
 // Books a record that meets a roster: 20, 1 to 10, 13, 11, 12, 24, then what the book says. A refusal changes nothing.
+#[tactic(auto, using(crate::proofs::Stages::book_sound, crate::proofs::Stages::book_known, crate::proofs::Stages::book_closing, crate::proofs::Rooms::fixed_wide))]
 pub fn book(
     s: &[u8],
     roster: &[u8],

@@ -2,11 +2,11 @@
 use mathlib.Core.Path.{◌∙◌, sym, ap}
 use Rattle.cells.proofs.Bools.{is_not, is_so}
 use Rattle.reader.proofs.Fitting.{fitting}
-use Rattle.record.specs.declared.layout.Kind.TheVariants.{Order, Goods, Closing, Report}
+use Rattle.record.specs.declared.layout.Kind.TheVariants.{Order, Goods}
 use Rattle.record.specs.declared.layout.Kinded.TheVariants.{Known}
 use Rattle.book.proofs.Fields.{order_copies, goods_copies}
 use Rattle.booking.proofs.Rooms.{fixed_wide}
-use Rattle.booking.proofs.Stages.{book_sound, book_unsound, book_unread, book_unknown, book_known, closing_so}
+use Rattle.booking.proofs.Stages.{book_sound, book_unsound, book_unread, book_unknown, book_known}
 use Rattle.booking.proofs.book.Goals as goal
 
 pub returns-then-not-are_sound : goal.returns-then-not-are_sound
@@ -24,12 +24,6 @@ book_goods-requires c =
     let g = sym c.kind_of.ensures ∙ c.in-Known.is ∙ ap Known c.in-Goods.is in
     let f = sym c.judge_record.ensures ∙ c.in-Fits.is in
     (book_sound _ _ (is_so c.are_sound.ensures c.if-not-are_sound.false), fixed_wide Goods _ _ g f, goods_copies _ _ (fitting Goods _ _ g f))
-
-pub book_report-requires : goal.book_report-requires
-book_report-requires c = (
-  book_sound _ _ (is_so c.are_sound.ensures c.if-not-are_sound.false),
-  fixed_wide Report _ _ (sym c.kind_of.ensures ∙ c.in-Known.is ∙ ap Known c.in-Report.is) (sym c.judge_record.ensures ∙ c.in-Fits.is),
-)
 
 pub returns-in-Refused : goal.returns-in-Refused
 returns-in-Refused c =
@@ -51,15 +45,3 @@ returns-in-Goods c =
     let g = sym c.kind_of.ensures ∙ c.in-Known.is ∙ ap Known c.in-Goods.is in
     let f = sym c.judge_record.ensures ∙ c.in-Fits.is in
     c.book_goods.ensures ∙ sym (book_known _ _ _ (is_so c.are_sound.ensures c.if-not-are_sound.false) _ f Goods g)
-
-pub returns-in-Closing : goal.returns-in-Closing
-returns-in-Closing c =
-    let g = sym c.kind_of.ensures ∙ c.in-Known.is ∙ ap Known c.in-Closing.is in
-    let f = sym c.judge_record.ensures ∙ c.in-Fits.is in
-    rw c.not_booked-in-Closing.ensures (sym (book_known _ _ _ (is_so c.are_sound.ensures c.if-not-are_sound.false) _ f Closing g ∙ closing_so _ _ _))
-
-pub returns-in-Report : goal.returns-in-Report
-returns-in-Report c =
-    let g = sym c.kind_of.ensures ∙ c.in-Known.is ∙ ap Known c.in-Report.is in
-    let f = sym c.judge_record.ensures ∙ c.in-Fits.is in
-    c.book_report.ensures ∙ sym (book_known _ _ _ (is_so c.are_sound.ensures c.if-not-are_sound.false) _ f Report g)
