@@ -113,6 +113,7 @@ pub fn is_room(width: usize, most: usize, n: usize) -> bool
 }
 
 // Whether a lent book is sound.
+#[tactic(auto, unfolding(book::specs::Lent::sound, book::specs::Lent::rooms_sound, book::specs::Lent::used_lines, book::specs::Lent::used_slips, book::specs::Lent::line_room, book::specs::Lent::slip_room))]
 pub fn is_sound(lines: &[u8], slips: &[u8], used: &[usize; 2]) -> bool
     ensures { result ≡ sound (lent lines.now slips.now used.now) }
 {
