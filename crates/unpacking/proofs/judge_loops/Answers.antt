@@ -92,4 +92,4 @@ returns c =
     ≡ are_loops ((a.count - c.others_among-first.result) / loop_fields) (loops_of (optional_of a.contents.now (entries a.count a.table.now))) = let a = c.args in
     rw (loops_from a.contents.now a.table.now a.count c.others_among-first.result c.others_among-first.ensures _ (even))
     c.are_loops.ensures in
-    sym (loops_fit _ _ (left-long) c.if-left-eq0.false c.if-left-ne0.false (is_so (looped) c.if-not-are_loops.false) c.if-n-gt-MOST_PARTS.false)
+    sym (loops_fit _ _ (left-long) c.if-left-eq0.false c.if-left-ne0.false (is_so (looped) c.if-not-are_loops.false) (omega arith))
