@@ -36,13 +36,13 @@ book: target/bin/desk tools
 	@test -n "$(FILE)" || { echo "usage: make book FILE=examples/day.bwa" >&2; exit 2; }
 	@$(RUN) target/bin/desk < "$(FILE)"
 
-# The layout of every file, every proof, every must-fail edit and every program; then the C library against an independent implementation, and the host program, side by side: the host's tests wait more than they work. The verdict of the proofs stands last. `rt ci` lets an edit pass that it could not apply or read: here that fails.
+# The layout of every file, every proof, every must-fail edit and every program; then the C library against an independent implementation, and the host program, side by side: the host's tests wait more than they work. The verdict of the proofs stands last. `rt ci` lets an edit pass that it could not apply or read: here that fails. The desk program of these checks is the one that `rt ci` built, and the library is built anew, since `rt ci` builds none.
 test:
 	@log=$$(mktemp); trap 'rm -f $$log' EXIT; \
 	LOG=$$log tests/proving.sh all rt ci || exit 1; verdict=$$(tail -n 1 $$log); \
 	case "$$verdict" in *" passed, 0 failed") ;; *) exit 1 ;; esac; \
 	grep -q '^rt: ok;' $$log && ! grep -E '^rt: (ok;.*, [1-9][0-9]* bad|.*: BAD EDIT: )' $$log >&2 || exit 1; \
-	mkdir -p target/bin && cp crates/desk/out/desk target/bin/desk || exit 1; \
+	mkdir -p target/bin && cp crates/desk/out/desk target/bin/desk && rm -f $(LIBRARY) || exit 1; \
 	$(MAKE) --no-print-directory -j3 -O header compare desk-compare desk-fault sanitized host-test && echo "$$verdict"
 
 lib: $(LIBRARY)
