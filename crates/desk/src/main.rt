@@ -1,7 +1,7 @@
 // The desk program: books the records on standard input into rooms for 256 lines and 512 slips, and prints one line each.
 #![tactic(auto)]
 
-ghost use Rattle.std.specs.Prelude.{◌≡◌, ◌≤◌};
+ghost use Rattle.std.specs.Prelude.{◌≡◌, ◌≤◌, IfOk, length};
 ghost use Rattle.entry.specs.Report.{most_message};
 ghost use Rattle.desk.specs.Printed.{kind_letter, is_message, message_digits};
 
@@ -114,7 +114,9 @@ fn following(n: u64) -> u64 {
 }
 
 // Reads once, and again where a signal cut the read short.
-fn read_some<R: Read>(input: &mut R, space: &mut [u8]) -> io::Result<usize> {
+fn read_some<R: Read>(input: &mut R, space: &mut [u8]) -> io::Result<usize>
+    ensures { IfOk result (λ n. n ≤ length space.new) }
+{
     for _ in 0..u64::MAX {
         match input.read(space) {
             Ok(n) => return Ok(n),
