@@ -16,6 +16,11 @@ use std::process::ExitCode;
 
 const UNKNOWN: u8 = b'?';
 
+// The answers to an over-long record and to one of no known kind.
+const OVER_LONG: u64 = 1;
+
+const OF_NO_KIND: u64 = 2;
+
 // 256 lines of 66 bytes, 512 slips of 50.
 const LINES_ROOM: usize = 16896;
 
@@ -39,10 +44,10 @@ struct Desk {
 fn kind_letter(answer: u64, s: &[u8]) -> u8
     ensures { result ≡ kind_letter answer s.now }
 {
-    if answer == 1 {
+    if answer == OVER_LONG {
         return UNKNOWN;
     }
-    if answer == 2 {
+    if answer == OF_NO_KIND {
         return UNKNOWN;
     }
     if s.len() == 0 {
