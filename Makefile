@@ -36,12 +36,13 @@ book: target/bin/desk tools
 	@test -n "$(FILE)" || { echo "usage: make book FILE=examples/day.bwa" >&2; exit 2; }
 	@$(RUN) target/bin/desk < "$(FILE)"
 
-# The layout of every file; every proof, every must-fail edit and every program; then the C library against an independent implementation, and the host program, side by side: the host's tests wait more than they work. The verdict of the proofs stands last.
-test: tools
-	@rt fmt --check
+# The layout of every file, every proof, every must-fail edit and every program; then the C library against an independent implementation, and the host program, side by side: the host's tests wait more than they work. The verdict of the proofs stands last. `rt ci` lets an edit pass that it could not apply or read: here that fails. The desk program of these checks is the one that `rt ci` built, and the library is built anew, since `rt ci` builds none.
+test:
 	@log=$$(mktemp); trap 'rm -f $$log' EXIT; \
 	LOG=$$log tests/proving.sh all rt ci || exit 1; verdict=$$(tail -n 1 $$log); \
 	case "$$verdict" in *" passed, 0 failed") ;; *) exit 1 ;; esac; \
+	grep -q '^rt: ok;' $$log && ! grep -E '^rt: (ok;.*, [1-9][0-9]* bad|.*: BAD EDIT: )' $$log >&2 || exit 1; \
+	mkdir -p target/bin && cp crates/desk/out/desk target/bin/desk && rm -f $(LIBRARY) || exit 1; \
 	$(MAKE) --no-print-directory -j3 -O header compare desk-compare desk-fault sanitized host-test && echo "$$verdict"
 
 lib: $(LIBRARY)
@@ -59,10 +60,10 @@ desk-compare: target/c/desk target/bin/desk
 	@$(RUN) target/bin/desk < examples/day.bwa > target/c/day.out && $(RUN) target/c/desk < examples/day.bwa > target/c/day.expected && cmp target/c/day.out target/c/day.expected
 	@echo "desk: 2 days compared, 0 differences"
 
-# An input that fails after its bytes: the record before the fault is booked, the one that it cut off is not, and that is said.
+# An input that fails after its bytes: the record before the fault is booked, the one that it cut off is not, and that is said, also by the exit status.
 desk-fault: target/c/fault target/bin/desk
 	@head -n 1 examples/day.bwa > target/c/first.bwa && $(RUN) target/bin/desk < target/c/first.bwa > target/c/first.out
-	@$(RUN) target/c/fault "$$(sed -n '1p;2s/\r$$//p' examples/day.bwa)" $(RUN) target/bin/desk > target/c/fault.out 2> target/c/fault.err
+	@$(RUN) target/c/fault "$$(sed -n '1p;2s/\r$$//p' examples/day.bwa)" $(RUN) target/bin/desk > target/c/fault.out 2> target/c/fault.err; [ $$? -eq 1 ]
 	@cmp target/c/first.out target/c/fault.out && grep -q 'not be read to its end' target/c/fault.err && echo "desk: of a failed input nothing is booked that the fault cut off"
 
 # The comparison for longer, with fresh seeds, until it is stopped.
@@ -109,11 +110,14 @@ header: tools
 host-test: target/c/wizqamul-host
 	@RUN="$(RUN)" host/test.sh target/c/wizqamul-host
 
+# The kit builds a program where it runs it, here on no records.
 target/bin/desk: $(RATTLE)
-	@tests/proving.sh desk rt check desk >&2
+	@tests/proving.sh desk rt run >&2
+	@mkdir -p $(@D) && cp crates/desk/out/desk $@
 
 $(LIBRARY): $(RATTLE)
-	@tests/proving.sh wizqamul rt staticlib wizqamul >&2
+	@tests/proving.sh wizqamul rt lib >&2
+	@mkdir -p $(@D) && cp crates/wizqamul/out/libwizqamul.a $@
 
 target/c/compare: $(DRIVER) $(REFERENCE) $(HEADERS) $(LIBRARY) | tools target/c
 	@$(COMPILER) $(WARNINGS) -O2 -o $@ $(DRIVER) $(REFERENCE) $(LIBRARY)

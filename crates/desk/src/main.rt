@@ -1,7 +1,7 @@
 // The desk program: books the records on standard input into rooms for 256 lines and 512 slips, and prints one line each.
 #![tactic(auto)]
 
-ghost use Rattle.std.specs.Prelude.{◌≡◌, ◌≤◌};
+ghost use Rattle.std.specs.Prelude.{◌≡◌, ◌≤◌, IfOk, length};
 ghost use Rattle.entry.specs.Report.{most_message};
 ghost use Rattle.desk.specs.Printed.{kind_letter, is_message, message_digits};
 
@@ -9,32 +9,45 @@ use cells::part;
 use entry::line::Figures;
 use entry::report::MOST_MESSAGE;
 use feed::{Held, ended_length, ends, hold, left_length, start};
-use libc::{STDERR_FILENO, STDIN_FILENO, STDOUT_FILENO};
 use own::book_own;
+use std::io;
+use std::io::{BufWriter, ErrorKind, Read, Write};
+use std::process::ExitCode;
 
 const UNKNOWN: u8 = b'?';
+
+// The answers to an over-long record and to one of no known kind.
+const OVER_LONG: u64 = 1;
+
+const OF_NO_KIND: u64 = 2;
 
 // 256 lines of 66 bytes, 512 slips of 50.
 const LINES_ROOM: usize = 16896;
 
 const SLIPS_ROOM: usize = 25600;
 
-// What came since the last CR LF, how many records came before, and whether there is more to read.
-#[derive(Clone, Copy)]
-struct Reading {
+// The bytes that one read takes at most.
+const MOST_READ: usize = 65536;
+
+// What came since the last CR LF stands in `buffer` as `held` says. `number` records came before it, and the rooms hold the book that they left.
+#[derive(Drop)]
+struct Desk {
+    buffer: [u8; 1025],
     held: Held,
     number: u64,
-    more: bool,
+    lines: [u8; LINES_ROOM],
+    slips: [u8; SLIPS_ROOM],
+    used: [usize; 2],
 }
 
 // The first byte of a record, but `?` where the answer says that it is over-long or of no known kind.
 fn kind_letter(answer: u64, s: &[u8]) -> u8
     ensures { result ≡ kind_letter answer s.now }
 {
-    if answer == 1 {
+    if answer == OVER_LONG {
         return UNKNOWN;
     }
-    if answer == 2 {
+    if answer == OF_NO_KIND {
         return UNKNOWN;
     }
     if s.len() == 0 {
@@ -43,23 +56,23 @@ fn kind_letter(answer: u64, s: &[u8]) -> u8
     s[0]
 }
 
-fn text(s: &[u8]) {
-    io::write_all(STDOUT_FILENO, s);
+fn text<W: Write>(out: &mut W, s: &[u8]) -> io::Result<()> {
+    out.write_all(s)
 }
 
-fn number(n: u64) {
-    io::print_decimal(STDOUT_FILENO, n);
+fn number<W: Write>(out: &mut W, n: u64) -> io::Result<()> {
+    write!(out, "{n}")
 }
 
 // A number with a blank before it.
-fn next(n: u64) {
-    text(b" ");
-    number(n);
+fn next<W: Write>(out: &mut W, n: u64) -> io::Result<()> {
+    text(out, b" ")?;
+    number(out, n)
 }
 
-fn letter(b: u8) {
+fn letter<W: Write>(out: &mut W, b: u8) -> io::Result<()> {
     let s = [b' ', b];
-    text(&s);
+    text(out, &s)
 }
 
 // Whether there is a message to print: the record was booked, and the line's last report has one.
@@ -81,21 +94,20 @@ fn message_digits(n: u64) -> [u8; 3]
 }
 
 // The last message as three digits, or a hyphen where there is none.
-fn show_message(answer: u64, message: u64) {
-    text(b" ");
+fn show_message<W: Write>(out: &mut W, answer: u64, message: u64) -> io::Result<()> {
+    text(out, b" ")?;
     if is_message(answer, message) {
-        text(&message_digits(message));
-        return;
+        return text(out, &message_digits(message));
     }
-    text(b"-");
+    text(out, b"-")
 }
 
-fn show_figures(f: Figures) {
-    next(f.ordered.0);
-    next(f.filled.0);
-    next(f.still_open.0);
-    next(f.let_go.0);
-    next(f.extra.0);
+fn show_figures<W: Write>(out: &mut W, f: Figures) -> io::Result<()> {
+    next(out, f.ordered.0)?;
+    next(out, f.filled.0)?;
+    next(out, f.still_open.0)?;
+    next(out, f.let_go.0)?;
+    next(out, f.extra.0)
 }
 
 // One more, as long as there is a number.
@@ -106,146 +118,102 @@ fn following(n: u64) -> u64 {
     n
 }
 
-// Books a record and prints its line.
-fn answer(n: u64, s: &[u8], lines: &mut [u8], slips: &mut [u8], used: &mut [usize; 2]) {
-    let booked = book_own(s, lines, slips, used);
-    let figures = booked.figures;
-    let reported = booked.reported;
-    number(n);
-    letter(kind_letter(booked.answer, s));
-    next(booked.answer);
-    show_figures(figures);
-    show_message(booked.answer, reported.message);
-    text(b"\n");
+// Reads once, and again where a signal cut the read short.
+fn read_some<R: Read>(input: &mut R, space: &mut [u8]) -> io::Result<usize>
+    ensures { IfOk result (λ n. n ≤ length space.new) }
+{
+    for _ in 0..u64::MAX {
+        match input.read(space) {
+            Ok(n) => return Ok(n),
+            Err(e) => {
+                if e.kind() != ErrorKind::Interrupted {
+                    return Err(e);
+                }
+            }
+        }
+    }
+    Err(io::Error::from(ErrorKind::Interrupted))
 }
 
-// A byte ends the record that is held, or is held itself.
-fn take_byte(
-    at: Reading,
-    b: u8,
-    buffer: &mut [u8; 1025],
-    lines: &mut [u8],
-    slips: &mut [u8],
-    used: &mut [usize; 2],
-) -> Reading {
-    let held = at.held;
-    if ends(held, b) {
-        let n = following(at.number);
-        answer(n, part(buffer, 0, ended_length(held)), lines, slips, used);
-        return Reading {
+impl Desk {
+    // An empty book, and nothing read.
+    fn new() -> Desk {
+        Desk {
+            buffer: [0; 1025],
             held: start(),
-            number: n,
-            more: true,
-        };
+            number: 0,
+            lines: [0; LINES_ROOM],
+            slips: [0; SLIPS_ROOM],
+            used: [0; 2],
+        }
     }
-    Reading {
-        held: hold(held, buffer, b),
-        number: at.number,
-        more: true,
+
+    // Books the first `length` bytes of the buffer as the next record and prints its line.
+    fn answer<W: Write>(&mut self, out: &mut W, length: usize) -> io::Result<()> {
+        self.number = following(self.number);
+        let s = part(&self.buffer, 0, length);
+        let booked = book_own(s, &mut self.lines, &mut self.slips, &mut self.used);
+        number(out, self.number)?;
+        letter(out, kind_letter(booked.answer, s))?;
+        next(out, booked.answer)?;
+        show_figures(out, booked.figures)?;
+        show_message(out, booked.answer, booked.reported.message)?;
+        text(out, b"\n")
+    }
+
+    // A byte ends the record that is held, or is held itself.
+    fn take_byte<W: Write>(&mut self, out: &mut W, b: u8) -> io::Result<()> {
+        if ends(self.held, b) {
+            self.answer(out, ended_length(self.held))?;
+            self.held = start();
+        } else {
+            self.held = hold(self.held, &mut self.buffer, b);
+        }
+        Ok(())
+    }
+
+    fn take_bytes<W: Write>(&mut self, out: &mut W, s: &[u8]) -> io::Result<()> {
+        for &b in s {
+            self.take_byte(out, b)?;
+        }
+        Ok(())
+    }
+
+    // Reads to the end, and tells whether it was reached. What each read gave is printed before the next.
+    // A proved loop has to end, so its turns are counted up to a number that no run reaches.
+    fn take_all<R: Read, W: Write>(&mut self, input: &mut R, out: &mut W) -> io::Result<bool> {
+        let mut space = [0u8; MOST_READ];
+        for _ in 0..u64::MAX {
+            match read_some(input, &mut space) {
+                Ok(0) => return Ok(true),
+                Ok(n) => self.take_bytes(out, &space[..n])?,
+                Err(_) => return Ok(false),
+            }
+            out.flush()?;
+        }
+        Ok(false)
+    }
+
+    // The bytes after the last CR LF, if any, are one more record.
+    fn take_left<W: Write>(&mut self, out: &mut W) -> io::Result<()> {
+        let n = left_length(self.held);
+        if n > 0 {
+            self.answer(out, n)?;
+        }
+        out.flush()
     }
 }
 
-fn take_bytes(
-    at: Reading,
-    s: &[u8],
-    buffer: &mut [u8; 1025],
-    lines: &mut [u8],
-    slips: &mut [u8],
-    used: &mut [usize; 2],
-) -> Reading {
-    let mut reading = at;
-    let mut i: usize = 0;
-    while i < s.len() {
-        reading = take_byte(reading, s[i], buffer, lines, slips, used);
-        i += 1;
+// Where the input fails before its end, what is held is given up: a record whose end was never read is not booked.
+fn main(rt: HostRuntime) -> io::Result<ExitCode> {
+    let mut out = BufWriter::new(rt.alloc(), rt.stdout())?;
+    let mut desk = Desk::new();
+    if desk.take_all(&mut rt.stdin(), &mut out)? {
+        desk.take_left(&mut out)?;
+        return Ok(ExitCode::SUCCESS);
     }
-    reading
-}
-
-// The input failed before its end was read. What is held is given up: a record whose end was never read is not booked.
-fn given_up(number: u64) -> Reading {
-    io::write_all(
-        STDERR_FILENO,
-        b"desk: the input could not be read to its end; what stands after the last record printed is not booked\n",
-    );
-    Reading {
-        held: start(),
-        number: number,
-        more: false,
-    }
-}
-
-// There is nothing more to read.
-fn over(at: Reading) -> Reading {
-    let held = at.held;
-    Reading {
-        held: held,
-        number: at.number,
-        more: false,
-    }
-}
-
-// Reads once and takes what came.
-fn take_some(
-    at: Reading,
-    buffer: &mut [u8; 1025],
-    lines: &mut [u8],
-    slips: &mut [u8],
-    used: &mut [usize; 2],
-) -> Reading {
-    let mut space = io::large_buffer();
-    let got = libc::read(STDIN_FILENO, &mut space);
-    if got < 0 {
-        return given_up(at.number);
-    }
-    if got == 0 {
-        return over(at);
-    }
-    let n = io::count(got, &space);
-    take_bytes(at, &space[..n], buffer, lines, slips, used)
-}
-
-// Reads to the end. A proved loop has to end, so it counts its turns down from a number that no run uses up.
-fn take_all(
-    at: Reading,
-    buffer: &mut [u8; 1025],
-    lines: &mut [u8],
-    slips: &mut [u8],
-    used: &mut [usize; 2],
-) -> Reading {
-    let mut reading = at;
-    let mut turns = u64::MAX;
-    while turns > 0 && reading.more {
-        reading = take_some(reading, buffer, lines, slips, used);
-        turns -= 1;
-    }
-    reading
-}
-
-// The bytes after the last CR LF, if any, are one more record.
-fn take_left(
-    at: Reading,
-    buffer: &[u8; 1025],
-    lines: &mut [u8],
-    slips: &mut [u8],
-    used: &mut [usize; 2],
-) {
-    let n = left_length(at.held);
-    if n > 0 {
-        answer(following(at.number), part(buffer, 0, n), lines, slips, used);
-    }
-}
-
-fn main() {
-    let mut buffer = [0u8; 1025];
-    let mut lines = [0u8; LINES_ROOM];
-    let mut slips = [0u8; SLIPS_ROOM];
-    let mut used = [0usize; 2];
-    let first = Reading {
-        held: start(),
-        number: 0,
-        more: true,
-    };
-    let last = take_all(first, &mut buffer, &mut lines, &mut slips, &mut used);
-    take_left(last, &buffer, &mut lines, &mut slips, &mut used);
+    eprintln!(rt;
+        "desk: the input could not be read to its end; what stands after the last record printed is not booked"
+    )?;
+    Ok(ExitCode::FAILURE)
 }

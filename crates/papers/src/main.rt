@@ -4,12 +4,13 @@
 ghost use Rattle.std.specs.Prelude.{◌≤◌, length};
 
 use cells::{part, same};
-use libc::STDIN_FILENO;
 use reader::{check, read_delivery, read_order, read_report};
 use record::answer::Checked;
 use record::layout::{Kind, Kinded, MOST_FIELDS, fixed_width, kind_of};
 use shown::{number, show_values, text};
 use shown_parts::show_parts;
+use std::io;
+use std::io::{BufWriter, Read, Write};
 use unpacking::FULL_TABLE;
 use writer::{write, write_delivery, write_order, write_report};
 use writing::answer::Written;
@@ -18,98 +19,126 @@ const CR: u8 = 13;
 
 const LF: u8 = 10;
 
+// Of a longer input no more is read.
+const MOST_INPUT: u64 = 65536;
+
 // An optional field that a table lists.
-fn show_field(s: &[u8], table: &[usize; FULL_TABLE], i: usize) {
+fn show_field<W: Write>(
+    out: &mut W,
+    s: &[u8],
+    table: &[usize; FULL_TABLE],
+    i: usize,
+) -> io::Result<()> {
     if MOST_FIELDS <= i {
-        return;
+        return Ok(());
     }
     let id = table[i * 3];
     let place = table[i * 3 + 1];
     let width = table[i * 3 + 2];
-    text(b"  *");
-    number(id as u64);
-    text(b" [");
+    text(out, b"  *")?;
+    number(out, id as u64)?;
+    text(out, b" [")?;
     if place <= 1024 {
         if width <= 1024 {
-            text(part(s, place, place + width));
+            text(out, part(s, place, place + width))?;
         }
     }
-    text(b"]\n");
+    text(out, b"]\n")
 }
 
-fn show_fields(s: &[u8], table: &[usize; FULL_TABLE], fields: usize) {
-    let mut i: usize = 0;
-    while i < fields {
-        show_field(s, table, i);
-        i += 1;
+fn show_fields<W: Write>(
+    out: &mut W,
+    s: &[u8],
+    table: &[usize; FULL_TABLE],
+    fields: usize,
+) -> io::Result<()> {
+    for i in 0..fields {
+        show_field(out, s, table, i)?;
     }
+    Ok(())
 }
 
 // Whether what was written is the record again.
-fn show_written(how: &[u8], w: Written, out: &[u8; 1024], s: &[u8]) {
-    text(how);
+fn show_written<W: Write>(
+    out: &mut W,
+    how: &[u8],
+    w: Written,
+    record: &[u8; 1024],
+    s: &[u8],
+) -> io::Result<()> {
+    text(out, how)?;
     if w.answer != 0 {
-        text(b" refused\n");
-        return;
+        return text(out, b" refused\n");
     }
-    if same(part(out, 0, w.length), s) {
-        text(b" written back\n");
+    if same(part(record, 0, w.length), s) {
+        text(out, b" written back\n")
     } else {
-        text(b" written otherwise\n");
+        text(out, b" written otherwise\n")
     }
 }
 
 // The record written from its fixed part's bytes, and from its typed values, with the table that the check filled.
-fn write_back(s: &[u8], table: &[usize; FULL_TABLE], fields: usize) {
-    let mut out = [0u8; 1024];
+fn write_back<W: Write>(
+    out: &mut W,
+    s: &[u8],
+    table: &[usize; FULL_TABLE],
+    fields: usize,
+) -> io::Result<()> {
+    let mut record = [0u8; 1024];
     match kind_of(s) {
-        Kinded::Unknown => text(b"  unknown kind\n"),
+        Kinded::Unknown => text(out, b"  unknown kind\n"),
         Kinded::Known(k) => {
-            let w = write(part(s, 0, fixed_width(k)), table, fields, s, &mut out);
-            show_written(b"  bytes", w, &out, s);
-            write_values(k, s, table, fields);
+            let w = write(part(s, 0, fixed_width(k)), table, fields, s, &mut record);
+            show_written(out, b"  bytes", w, &record, s)?;
+            write_values(out, k, s, table, fields)
         }
     }
 }
 
-fn write_values(k: Kind, s: &[u8], table: &[usize; FULL_TABLE], fields: usize) {
-    let mut out = [0u8; 1024];
+fn write_values<W: Write>(
+    out: &mut W,
+    k: Kind,
+    s: &[u8],
+    table: &[usize; FULL_TABLE],
+    fields: usize,
+) -> io::Result<()> {
+    let mut record = [0u8; 1024];
     match k {
         Kind::Order => {
-            let w = write_order(read_order(s).order, table, fields, s, &mut out);
-            show_written(b"  order", w, &out, s);
+            let w = write_order(read_order(s).order, table, fields, s, &mut record);
+            show_written(out, b"  order", w, &record, s)
         }
         Kind::Goods => {
-            let w = write_delivery(read_delivery(s).delivery, table, fields, s, &mut out);
-            show_written(b"  delivery", w, &out, s);
+            let w = write_delivery(read_delivery(s).delivery, table, fields, s, &mut record);
+            show_written(out, b"  delivery", w, &record, s)
         }
         Kind::Closing => {
-            let w = write_delivery(read_delivery(s).delivery, table, fields, s, &mut out);
-            show_written(b"  closing record", w, &out, s);
+            let w = write_delivery(read_delivery(s).delivery, table, fields, s, &mut record);
+            show_written(out, b"  closing record", w, &record, s)
         }
         Kind::Report => {
-            let w = write_report(read_report(s).report, table, fields, s, &mut out);
-            show_written(b"  report", w, &out, s);
+            let w = write_report(read_report(s).report, table, fields, s, &mut record);
+            show_written(out, b"  report", w, &record, s)
         }
     }
 }
 
 // A record by its answer, values and optional fields.
-fn show(s: &[u8]) {
+fn show<W: Write>(out: &mut W, s: &[u8]) -> io::Result<()> {
     let mut table = [0usize; FULL_TABLE];
     let checked = check(s, &mut table);
-    text(part(s, 0, 4));
-    text(b" answer ");
-    number(checked.answer);
-    text(b" place ");
-    number(checked.place as u64);
-    text(b" fields ");
-    number(checked.fields as u64);
-    text(b"\n");
-    show_values(s);
-    show_fields(s, &table, checked.fields);
-    write_back(s, &table, checked.fields);
-    show_parts(s, &table, checked.fields);
+    text(out, part(s, 0, 4))?;
+    text(out, b" answer ")?;
+    number(out, checked.answer)?;
+    text(out, b" place ")?;
+    number(out, checked.place as u64)?;
+    text(out, b" fields ")?;
+    number(out, checked.fields as u64)?;
+    text(out, b"\n")?;
+    show_values(out, s)?;
+    show_fields(out, s, &table, checked.fields)?;
+    write_back(out, s, &table, checked.fields)?;
+    show_parts(out, s, &table, checked.fields)
 }
 
 // Where the line that starts at a place ends: at its CR LF, or at the end of the input.
@@ -131,17 +160,23 @@ fn line_end(s: &[u8], from: usize) -> usize
     at
 }
 
-fn show_all(s: &[u8]) {
+fn show_all<W: Write>(out: &mut W, s: &[u8]) -> io::Result<()> {
     let mut at: usize = 0;
     while at < s.len() {
         let end = line_end(s, at);
-        show(part(s, at, end));
+        show(out, part(s, at, end))?;
         at = end + 2;
     }
+    Ok(())
 }
 
-fn main() {
-    let mut space = io::large_buffer();
-    let n = io::read_full(STDIN_FILENO, &mut space);
-    show_all(part(&space, 0, n));
+// What came before a failed read is shown all the same.
+fn main(rt: HostRuntime) -> io::Result<()> {
+    let mut input = Vec::new(rt.alloc());
+    let read = rt.stdin().take(MOST_INPUT).read_to_end(&mut input);
+    let mut out = BufWriter::new(rt.alloc(), rt.stdout())?;
+    show_all(&mut out, input.as_slice())?;
+    out.flush()?;
+    read?;
+    Ok(())
 }
