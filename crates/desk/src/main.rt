@@ -1,7 +1,7 @@
 // The desk program: books the records on standard input into rooms for 256 lines and 512 slips, and prints one line each.
 #![tactic(auto)]
 
-ghost use Rattle.std.specs.Prelude.{◌≡◌, ◌≤◌, IfOk, length};
+ghost use Rattle.std.specs.Prelude.{◌≡◌, ◌≤◌};
 ghost use Rattle.entry.specs.Report.{most_message};
 ghost use Rattle.desk.specs.Printed.{kind_letter, is_message, message_digits};
 
@@ -11,7 +11,7 @@ use entry::report::MOST_MESSAGE;
 use feed::{Held, ended_length, ends, hold, left_length, start};
 use own::book_own;
 use std::io;
-use std::io::{BufWriter, ErrorKind, Read, Write};
+use std::io::{Read, Write};
 use std::process::ExitCode;
 
 const UNKNOWN: u8 = b'?';
@@ -118,23 +118,6 @@ fn following(n: u64) -> u64 {
     n
 }
 
-// Reads once, and again where a signal cut the read short.
-fn read_some<R: Read>(input: &mut R, space: &mut [u8]) -> io::Result<usize>
-    ensures { IfOk result (λ n. n ≤ length space.new) }
-{
-    for _ in 0..u64::MAX {
-        match input.read(space) {
-            Ok(n) => return Ok(n),
-            Err(e) => {
-                if e.kind() != ErrorKind::Interrupted {
-                    return Err(e);
-                }
-            }
-        }
-    }
-    Err(io::Error::from(ErrorKind::Interrupted))
-}
-
 impl Desk {
     // An empty book, and nothing read.
     fn new() -> Desk {
@@ -184,7 +167,7 @@ impl Desk {
     fn take_all<R: Read, W: Write>(&mut self, input: &mut R, out: &mut W) -> io::Result<bool> {
         let mut space = [0u8; MOST_READ];
         for _ in 0..u64::MAX {
-            match read_some(input, &mut space) {
+            match input.read(&mut space) {
                 Ok(0) => return Ok(true),
                 Ok(n) => self.take_bytes(out, &space[..n])?,
                 Err(_) => return Ok(false),
@@ -206,7 +189,7 @@ impl Desk {
 
 // Where the input fails before its end, what is held is given up: a record whose end was never read is not booked.
 fn main(rt: HostRuntime) -> io::Result<ExitCode> {
-    let mut out = BufWriter::new(rt.alloc(), rt.stdout())?;
+    let mut out = rt.stdout();
     let mut desk = Desk::new();
     if desk.take_all(&mut rt.stdin(), &mut out)? {
         desk.take_left(&mut out)?;

@@ -5,12 +5,11 @@ ghost use Rattle.std.specs.Prelude.{◌≤◌, length};
 
 use cells::{part, same};
 use reader::{check, read_delivery, read_order, read_report};
-use record::answer::Checked;
 use record::layout::{Kind, Kinded, MOST_FIELDS, fixed_width, kind_of};
 use shown::{number, show_values, text};
 use shown_parts::show_parts;
 use std::io;
-use std::io::{BufWriter, Read, Write};
+use std::io::{Read, Write};
 use unpacking::FULL_TABLE;
 use writer::{write, write_delivery, write_order, write_report};
 use writing::answer::Written;
@@ -20,7 +19,7 @@ const CR: u8 = 13;
 const LF: u8 = 10;
 
 // Of a longer input no more is read.
-const MOST_INPUT: u64 = 65536;
+const MOST_INPUT: usize = 65536;
 
 // An optional field that a table lists.
 fn show_field<W: Write>(
@@ -170,13 +169,28 @@ fn show_all<W: Write>(out: &mut W, s: &[u8]) -> io::Result<()> {
     Ok(())
 }
 
+// Reads until the room is full or the input ends: how many bytes came, and how the last read went.
+fn read_full<R: Read>(input: &mut R, room: &mut [u8]) -> (usize, io::Result<()>)
+    ensures { result.0 ≤ length room.new }
+{
+    let mut n: usize = 0;
+    for _ in 0..u64::MAX {
+        if n == room.len() {
+            break;
+        }
+        match input.read(&mut room[n..]) {
+            Ok(0) => break,
+            Ok(came) => n += came,
+            Err(e) => return (n, Err(e)),
+        }
+    }
+    (n, Ok(()))
+}
+
 // What came before a failed read is shown all the same.
 fn main(rt: HostRuntime) -> io::Result<()> {
-    let mut input = Vec::new(rt.alloc());
-    let read = rt.stdin().take(MOST_INPUT).read_to_end(&mut input);
-    let mut out = BufWriter::new(rt.alloc(), rt.stdout())?;
-    show_all(&mut out, input.as_slice())?;
-    out.flush()?;
-    read?;
-    Ok(())
+    let mut room = [0u8; MOST_INPUT];
+    let (n, read) = read_full(&mut rt.stdin(), &mut room);
+    show_all(&mut rt.stdout(), part(&room, 0, n))?;
+    read
 }
