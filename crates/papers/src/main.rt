@@ -5,7 +5,6 @@ ghost use Rattle.std.specs.Prelude.{◌≤◌, length};
 
 use cells::{part, same};
 use reader::{check, read_delivery, read_order, read_report};
-use record::answer::Checked;
 use record::layout::{Kind, Kinded, MOST_FIELDS, fixed_width, kind_of};
 use shown::{number, show_values, text};
 use shown_parts::show_parts;
