@@ -147,4 +147,4 @@ tools:
 	else sudo apt-get -q update && sudo apt-get -q -y install $(PACKAGES); fi; } >&2
 
 clean:
-	@rm -rf target
+	@rm -rf target crates/*/out

@@ -1,7 +1,7 @@
 #!/usr/bin/env python3
 """spelling.py [--pages]: brings this project's own definitions and lemmas to words in snake case.
 
-Ran once, right behind the kit's port.py, when the project came to today's Rattle (docs/PORT.md). The names stand in
+Ran right behind the kit's port.py when the project came to today's Rattle, and again with a longer list (docs/PORT.md). The names stand in
 spelling.txt beside this file, a line `old new` each. It writes them into specs/, proofs/, the clauses of src/ and the
 must-fail edits of all crates. Types, facts, modules and variants (a capital in front), functions of src/, goals and words
 of the kit are not in the list. A lemma that would have had a definition's name ends in `_law`; five fields of statements have names of their own.
