@@ -1,7 +1,7 @@
 #!/bin/sh
 # Runs a command of the kit and shows what it is doing: each crate as it is proved or found kept,
-# whose edits are being tried, and what came of each edit, n of m. All that the command said is shown where it fails, and its last
-# line where it does not; the exit status is the command's own.
+# whose edits are being tried, and what came of each edit, n of m. All that the command said is
+# shown where it fails, and its last line where it does not; the exit status is the command's own.
 #
 # Usage: proving.sh CRATE|all COMMAND [WORD..]
 # CRATE is what the command proves, with what it stands on: the command is run in that crate's
