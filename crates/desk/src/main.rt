@@ -12,7 +12,6 @@ use feed::{Held, ended_length, ends, hold, left_length, start};
 use own::book_own;
 use std::io;
 use std::io::{Read, Write};
-use std::process::ExitCode;
 
 const UNKNOWN: u8 = b'?';
 
@@ -162,19 +161,23 @@ impl Desk {
         Ok(())
     }
 
-    // Reads to the end, and tells whether it was reached. What each read gave is printed before the next.
+    // Reads to the end: the inner result is that of reading, the outer one of printing.
     // A proved loop has to end, so its turns are counted up to a number that no run reaches.
-    fn take_all<R: Read, W: Write>(&mut self, input: &mut R, out: &mut W) -> io::Result<bool> {
+    fn take_all<R: Read, W: Write>(
+        &mut self,
+        input: &mut R,
+        out: &mut W,
+    ) -> io::Result<io::Result<()>> {
         let mut space = [0u8; MOST_READ];
         for _ in 0..u64::MAX {
             match input.read(&mut space) {
-                Ok(0) => return Ok(true),
+                Ok(0) => return Ok(Ok(())),
                 Ok(n) => self.take_bytes(out, &space[..n])?,
-                Err(_) => return Ok(false),
+                Err(e) => return Ok(Err(e)),
             }
             out.flush()?;
         }
-        Ok(false)
+        Ok(Ok(()))
     }
 
     // The bytes after the last CR LF, if any, are one more record.
@@ -188,15 +191,16 @@ impl Desk {
 }
 
 // Where the input fails before its end, what is held is given up: a record whose end was never read is not booked.
-fn main(rt: HostRuntime) -> io::Result<ExitCode> {
+fn main(rt: HostRuntime) -> io::Result<()> {
     let mut out = rt.stdout();
     let mut desk = Desk::new();
-    if desk.take_all(&mut rt.stdin(), &mut out)? {
+    let read = desk.take_all(&mut rt.stdin(), &mut out)?;
+    if read.is_ok() {
         desk.take_left(&mut out)?;
-        return Ok(ExitCode::SUCCESS);
+    } else {
+        eprintln!(rt;
+            "desk: the input could not be read to its end; what stands after the last record printed is not booked"
+        )?;
     }
-    eprintln!(rt;
-        "desk: the input could not be read to its end; what stands after the last record printed is not booked"
-    )?;
-    Ok(ExitCode::FAILURE)
+    read
 }
