@@ -8,16 +8,16 @@ use Rattle.entry.specs.Stored.{line_at}
 use Rattle.book.specs.Lent.{Lent, sound, find_line}
 use Rattle.book.specs.Booking.{refused_as, done_as}
 use Rattle.book.specs.Asked.{key_widths, are_wide, figures_at, figures_of_key, line_asked}
-use Rattle.cells.specs.declared.search.Found.TheVariants.{At, Nothing}
+use Rattle.std.specs.Prelude.{None, Some}
 use Rattle.book.specs.declared.answer.Refused.TheVariants.{Unsound, NoLine}
 
 -- the figures of a line that a key finds, or of none
 module _ (b : Lent) (key : List ℕ) where
-  pub figures_none : find_line b key ≡ Nothing → figures_at b (find_line b key) ≡ refused_as NoLine
+  pub figures_none : find_line b key ≡ None → figures_at b (find_line b key) ≡ refused_as NoLine
   unfolding figures_at
   figures_none e = rw e
 
-  pub figures_found : (i : ℕ) → find_line b key ≡ At i → figures_at b (find_line b key) ≡ done_as (line_at b.lines i)
+  pub figures_found : (i : ℕ) → find_line b key ≡ Some i → figures_at b (find_line b key) ≡ done_as (line_at b.lines i)
   unfolding figures_at
   figures_found i e = rw e
 

@@ -7,7 +7,6 @@ ghost use Rattle.book.specs.Lent.{lent, sound, find_line};
 ghost use Rattle.book.specs.Asked.{key_widths, are_wide, figures_at, line_asked};
 
 use book::answer::{Refused, Told, done, refuse};
-use cells::search::Found;
 use entry::key::{ADDRESS_WIDTH, KEY_FIELDS, QUALIFIER_WIDTH, REFERENCE_WIDTH};
 use finding::seek::{find_line, is_sound};
 use stored::read_line;
@@ -35,8 +34,8 @@ fn figures_at(key: [&[u8]; KEY_FIELDS], lines: &[u8], slips: &[u8], used: &[usiz
     ensures { result ≡ figures_at (lent lines.now slips.now used.now) (find_line (lent lines.now slips.now used.now) (joined (map (λ x. x.now) key.entry))) }
 {
     match find_line(lines, used[0], key) {
-        Found::Nothing => refuse(Refused::NoLine),
-        Found::At(i) => done(read_line(lines, i)),
+        None => refuse(Refused::NoLine),
+        Some(i) => done(read_line(lines, i)),
     }
 }
 

@@ -11,17 +11,14 @@ use Rattle.record.specs.Answers.{refusal_number}
 use Rattle.record.specs.Read.{judged}
 use Rattle.record.specs.declared.answer.Refusal.{Refusal}
 use Rattle.record.specs.declared.answer.Refusal.TheVariants.{TooLong, UnknownKind, TooShort, Byte, FixedField, NoField, LastField, TooManyFields, Content, Group, SmallTable}
-use Rattle.record.specs.declared.answer.Verdict.{Verdict as Reading}
-use Rattle.record.specs.declared.answer.Verdict.TheVariants.{Refused as ReadRefused, Fits as ReadFits}
+use Rattle.record.specs.Verdicts.{Verdict as Reading}
+use Rattle.std.specs.Prelude.{Err, None, Ok, Option, Some}
 use Rattle.record.specs.declared.layout.Kind.{Kind}
-use Rattle.record.specs.declared.layout.Kinded.{Kinded}
-use Rattle.record.specs.declared.layout.Kinded.TheVariants.{Known, Unknown}
 use Rattle.book.specs.Lent.{Lent, sound}
 use Rattle.book.specs.Booking.{refused_number, refused_as, done_as, booked_as, not_booked, agreed_as, line_after, lent_after, fit_judged, Outcome, outcome, entered_as, settled, book_as, book_kind, book_read, book}
 use Rattle.book.specs.declared.answer.Refused.{Refused}
 use Rattle.book.specs.declared.answer.Refused.TheVariants.{Unsound, Unread, NothingToBook, NoCopies, NoReference, LineExists, LinesUsed, NoLine, SlipBooked, SlipDiffers, SlipsUsed, TooManyArrived, NotOnRoster, CeilingPassed}
-use Rattle.book.specs.declared.answer.Verdict.{Verdict}
-use Rattle.book.specs.declared.answer.Verdict.TheVariants.{Refuse, Fits}
+use Rattle.book.specs.Verdicts.{Verdict}
 use Rattle.balance.specs.Met.{Met}
 use Rattle.balance.specs.Calls.{book_call}
 
@@ -67,11 +64,11 @@ pub record Accepts (s : Met) (b : Lent) : Type 0 where
   pub is_roster : roster_sound s.roster ≡ true
   pub is_sound : sound b ≡ true
   pub fields : ℕ
-  pub read : judged s.given ≡ ReadFits fields
+  pub read : judged s.given ≡ Ok fields
   pub kind : Kind
-  pub known : kind_of s.given ≡ Known kind
+  pub known : kind_of s.given ≡ Some kind
   pub place : ℕ
-  pub fits : fit_judged kind s.given s.roster b ≡ Fits place
+  pub fits : fit_judged kind s.given s.roster b ≡ Ok place
   pub said : (book_call s b).said ≡ booked_as (done_as (line_after kind s.given b place)) (agreed_as kind s.given b place)
   pub answer : (book_call s b).said.answer ≡ 0
   pub lent : (book_call s b).lent ≡ lent_after kind s.given b place
@@ -89,20 +86,20 @@ refused_or_accepted s b =
     (λ t. split (sound b) (λ h. at_reading t h (judged s.given) refl) (λ h. inl (rw (t, h) (refuses Unsound b))))
     (λ t. inl (rw t (refuses Unsound b)))
   where
-    at_verdict : roster_sound s.roster ≡ true → sound b ≡ true → (n : ℕ) → judged s.given ≡ ReadFits n → (k : Kind) → kind_of s.given ≡ Known k
+    at_verdict : roster_sound s.roster ≡ true → sound b ≡ true → (n : ℕ) → judged s.given ≡ Ok n → (k : Kind) → kind_of s.given ≡ Some k
         → (v : Verdict) → fit_judged k s.given s.roster b ≡ v → Refuses (book_call s b) b ⊎ Accepts s b
-    at_verdict t h n r k g (Refuse x) f = inl (rw (t, h, r, g, f) (refuses x b))
-    at_verdict t h n r k g (Fits i) f =
+    at_verdict t h n r k g (Err x) f = inl (rw (t, h, r, g, f) (refuses x b))
+    at_verdict t h n r k g (Ok i) f =
         inr (record { is_roster = t; is_sound = h; fields = n; read = r; kind = k; known = g; place = i; fits = f; said = rw (t, h, r, g, f); answer = rw (t, h, r, g, f); lent = rw (t, h, r, g, f) })
 
-    at_kind : roster_sound s.roster ≡ true → sound b ≡ true → (n : ℕ) → judged s.given ≡ ReadFits n → (k : Kinded) → kind_of s.given ≡ k
+    at_kind : roster_sound s.roster ≡ true → sound b ≡ true → (n : ℕ) → judged s.given ≡ Ok n → (k : Option Kind) → kind_of s.given ≡ k
         → Refuses (book_call s b) b ⊎ Accepts s b
-    at_kind t h n r Unknown g = inl (rw (t, h, r, g) (refuses NothingToBook b))
-    at_kind t h n r (Known k) g = at_verdict t h n r k g (fit_judged k s.given s.roster b) refl
+    at_kind t h n r None g = inl (rw (t, h, r, g) (refuses NothingToBook b))
+    at_kind t h n r (Some k) g = at_verdict t h n r k g (fit_judged k s.given s.roster b) refl
 
     at_reading : roster_sound s.roster ≡ true → sound b ≡ true → (v : Reading) → judged s.given ≡ v → Refuses (book_call s b) b ⊎ Accepts s b
-    at_reading t h (ReadRefused x) r = inl (rw (t, h, r) (refuses (Unread x) b))
-    at_reading t h (ReadFits n) r = at_kind t h n r (kind_of s.given) refl
+    at_reading t h (Err x) r = inl (rw (t, h, r) (refuses (Unread x) b))
+    at_reading t h (Ok n) r = at_kind t h n r (kind_of s.given) refl
 
 -- a record that answers 0 is accepted
 pub accepted : (s : Met) (b : Lent) → (book_call s b).said.answer ≡ 0 → Accepts s b

@@ -8,12 +8,11 @@ use Rattle.cells.proofs.Lists.{same_refl}
 use Rattle.record.specs.Layout.{kind_of}
 use Rattle.record.specs.declared.layout.Kind.{Kind}
 use Rattle.record.specs.declared.layout.Kind.TheVariants.{Order, Goods, Closing, Report}
-use Rattle.record.specs.declared.layout.Kinded.TheVariants.{Known}
+use Rattle.std.specs.Prelude.{Ok, Some}
 use Rattle.entry.specs.Stored.{article_is}
 use Rattle.ledger.specs.Lists.{given}
 use Rattle.book.specs.Lent.{Lent}
 use Rattle.book.specs.Booking.{article_fields, article_in, agreed_at, agreed_as, book_judged}
-use Rattle.book.specs.declared.answer.Verdict.TheVariants.{Fits}
 use Rattle.book.specs.declared.answer.Booked.{Booked}
 use Rattle.balance.specs.Met.{Met}
 use Rattle.balance.specs.Told.{rooms_of}
@@ -29,7 +28,7 @@ use Rattle.balance.proofs.Lines.{articles}
 use Rattle.balance.proofs.Stands.{Stands, stands}
 
 -- what is told is whether the record names the article of its line afterwards
-kind_agreed : (k : Kind) (s : List ℕ) (b : Lent) (i ceiling : ℕ) → book_judged k s ceiling b ≡ Fits i → agreed_as k s b i ≡ pick (same (article_after k s b i) (article_in k s)) 1 0
+kind_agreed : (k : Kind) (s : List ℕ) (b : Lent) (i ceiling : ℕ) → book_judged k s ceiling b ≡ Ok i → agreed_as k s b i ≡ pick (same (article_after k s b i) (article_in k s)) 1 0
 unfolding agreed_at agreed_as article_after article_is book_judged
 kind_agreed Order s b i ceiling e = rw (same_refl (article_in Order s)) refl
 kind_agreed Goods s b i ceiling e = refl
@@ -37,7 +36,7 @@ kind_agreed Closing s b i ceiling e = let z : ◌≡◌ {A = ℕ} 0 1 = cc in ab
 kind_agreed Report s b i ceiling e = refl
 
 -- the article that a record of a kind names
-named_on : (s : Met) (k : Kind) → kind_of s.given ≡ Known k → article_on s ≡ article_in k s.given
+named_on : (s : Met) (k : Kind) → kind_of s.given ≡ Some k → article_on s ≡ article_in k s.given
 unfolding article_on article_in article_fields joined
 named_on s Order e = rw e refl
 named_on s Goods e = rw e refl

@@ -9,16 +9,14 @@ use Rattle.cells.specs.Bytes.{pick, same, all, joined}
 use Rattle.cells.proofs.Bools.{and_false}
 use Rattle.record.specs.Layout.{layout, fixed_width, kind_of}
 use Rattle.record.specs.Read.{judged}
-use Rattle.record.specs.declared.answer.Verdict.TheVariants.{Fits as ReadFits}
+use Rattle.std.specs.Prelude.{Ok, Some}
 use Rattle.record.specs.declared.layout.Kind.{Kind}
 use Rattle.record.specs.declared.layout.Kind.TheVariants.{Order, Goods, Closing, Report}
-use Rattle.record.specs.declared.layout.Kinded.TheVariants.{Known}
 use Rattle.reader.proofs.Fitting.{fitting}
 use Rattle.ledger.specs.Book.{school_of, of_school as school_is}
 use Rattle.ledger.specs.History.{key_of as keyIn, is_order as isOrdering, on_order, on_slip, has_slip}
 use Rattle.book.specs.Lent.{Lent}
 use Rattle.roster.specs.Roster.{roster_sound, standing}
-use Rattle.roster.specs.declared.Standing.TheVariants.{On}
 use Rattle.book.specs.Booking.{key_fields, slip_fields, line_key, slip_key, school_in, nothing_to_book, no_copies, no_reference, fields_in}
 use Rattle.book.specs.Asked.{key_widths, are_wide}
 use Rattle.balance.specs.Met.{Met}
@@ -31,15 +29,15 @@ use Rattle.balance.proofs.Keys.{fields_are_same, school_widths, school_front}
 
 pub record Bookable (s : Met) : Type 0 where
   pub fields : ℕ
-  pub read : judged s.given ≡ ReadFits fields
+  pub read : judged s.given ≡ Ok fields
   pub kind : Kind
-  pub known : kind_of s.given ≡ Known kind
+  pub known : kind_of s.given ≡ Some kind
   pub something : nothing_to_book kind s.given ≡ false
   pub copies : no_copies kind s.given ≡ false
   pub referenced : no_reference kind s.given ≡ false
   pub is_roster : roster_sound s.roster ≡ true
   pub ceiling : ℕ
-  pub is_on_roster : standing s.roster (school_in kind s.given) ≡ On ceiling
+  pub is_on_roster : standing s.roster (school_in kind s.given) ≡ Some ceiling
 
 -- an accepted record is
 pub bookable : (s : Met) (b : Lent) → Accepts s b → Bookable s
@@ -64,7 +62,7 @@ pub record Keyed (s : Met) : Type 0 where
   pub key_is_law : joined (key_fields_in s) ≡ keyIn (fit_of s)
 
 -- of a record of a kind that is long enough
-kind_keyed : (s : Met) (k : Kind) → fixed_width k ≤ length s.given → nothing_to_book k s.given ≡ false → kind_of s.given ≡ Known k → Keyed s
+kind_keyed : (s : Met) (k : Kind) → fixed_width k ≤ length s.given → nothing_to_book k s.given ≡ false → kind_of s.given ≡ Some k → Keyed s
 unfolding key_fields_in key_fields fit_of fit_kind fit_as keyIn line_key layout all nothing_to_book
 kind_keyed s Order h n e =
     record { wide = rw e (fields_wide Order s.given h (key_fields Order) refl); key_is_law = rw e refl }
@@ -114,7 +112,7 @@ goods_slip : (s : Met) → fixed_width Goods ≤ length s.given → (slip : List
 unfolding slip_fields_in slip_key layout all
 goods_slip s h slip = rw (fields_are_same slip_widths slip (fields_in Goods slip_fields s.given) (fields_wide Goods s.given h slip_fields refl)) refl
 
-kind_booked : (s : Met) (k : Kind) → fixed_width k ≤ length s.given → nothing_to_book k s.given ≡ false → kind_of s.given ≡ Known k → BookedAs s
+kind_booked : (s : Met) (k : Kind) → fixed_width k ≤ length s.given → nothing_to_book k s.given ≡ false → kind_of s.given ≡ Some k → BookedAs s
 unfolding fit_of fit_kind fit_as isOrdering on_order on_slip has_slip is_order is_delivery copies_on nothing_to_book
 kind_booked s Order h n e = record { ordering = rw e refl; on_order_law = rw e refl; on_slip_law = rw e refl; slip_in_law = λ slip. rw (e, and_false (are_wide slip_widths slip)) refl }
 kind_booked s Goods h n e =

@@ -6,11 +6,10 @@ use Prim.Native.Nat.{ℕ, ◌≤◌}
 use lib.ListN.{take}
 use Rattle.cells.specs.Bytes.{joined}
 use Rattle.roster.specs.Roster.{standing}
-use Rattle.roster.specs.declared.Standing.TheVariants.{On}
+use Rattle.std.specs.Prelude.{Some}
 use Rattle.record.specs.Layout.{kind_of}
 use Rattle.record.specs.declared.layout.Kind.{Kind}
 use Rattle.record.specs.declared.layout.Kind.TheVariants.{Order, Goods, Closing, Report}
-use Rattle.record.specs.declared.layout.Kinded.TheVariants.{Known}
 use Rattle.entry.specs.declared.line.Figures.{Figures}
 use Rattle.ledger.specs.Lists.{total}
 use Rattle.ledger.specs.Book.{school_of as school_in, Rooms, still_open}
@@ -48,8 +47,8 @@ module _ (s : Met) (b : Lent) (a : Accepts s b) where
       (school_front (key_fields_in s) (keyed s (bookable s b a)).wide).1 ∙ ap (take 12) (keyed s (bookable s b a)).key_is_law
 
 -- on lists: an order that the told book accepts, whose school has a ceiling
-on_lists : (rooms : Rooms) (s : Met) (b : Lent) (ceiling : ℕ) → is_order s ≡ true → (k : Kind) → kind_of s.given ≡ Known k
-    → standing s.roster (joined (school_of s)) ≡ On ceiling → judge rooms (told b) (fit_of s) ≡ done
+on_lists : (rooms : Rooms) (s : Met) (b : Lent) (ceiling : ℕ) → is_order s ≡ true → (k : Kind) → kind_of s.given ≡ Some k
+    → standing s.roster (joined (school_of s)) ≡ Some ceiling → judge rooms (told b) (fit_of s) ≡ done
     → open_of (school_in (keyIn (fit_of s))) (enter (told b) (fit_of s)).lines ≤ ceiling
 unfolding is_order key_fields_in fit_of fit_kind fit_as keyIn key_fields
 on_lists rooms s b ceiling o Order e t d =

@@ -8,7 +8,7 @@ use native.Mathlib.Omega.{arith}
 use borrow.Author.Tests.{lt-ltb, le-leb}
 use Rattle.cells.specs.Bytes.{same}
 use Rattle.cells.specs.Search.{first_from}
-use Rattle.cells.specs.declared.search.Found.{Found}
+use Rattle.std.specs.Prelude.{None, Ok, Option, Some}
 use Rattle.cells.proofs.Bools.{split}
 use Rattle.cells.proofs.Lists.{same_refl, same_true}
 use Rattle.record.specs.declared.layout.Kind.{Kind}
@@ -17,10 +17,7 @@ use Rattle.entry.specs.Stored.{most_arrived, line_at, key_at, key_is, slip_key_a
 use Rattle.roundtrip.proofs.ReadExactly.{fits_record, record_fits}
 use Rattle.book.specs.Lent.{Lent, used_lines, used_slips, line_room, slip_room, find_line, find_slip, open_copies}
 use Rattle.roster.specs.Roster.{entries, account_at, account_is, find_account, standing_at, standing}
-use Rattle.roster.specs.declared.Standing.TheVariants.{On}
 use Rattle.book.specs.Booking.{line_key, slip_key, school_in, copies_in, new_line_judged, order_judged, arrival_judged, goods_judged, delivery_judged, report_judged, book_judged}
-use Rattle.cells.specs.declared.search.Found.TheVariants.{At, Nothing}
-use Rattle.book.specs.declared.answer.Verdict.TheVariants.{Fits}
 use Rattle.cells.proofs.Searches.{found_at, none_at, first_is, none_is, first_so}
 use Rattle.balance.specs.Met.{Met}
 use Rattle.balance.specs.Calls.{book_call}
@@ -38,15 +35,15 @@ not_equal a b e d = false≢true (sym e ∙ rw d (same_refl b))
 
 module _ (b : Lent) (key : List ℕ) where
   -- a search for a line says whether one has the key, and which is the first
-  no_line_so : find_line b key ≡ Nothing → NoLineWith b key
+  no_line_so : find_line b key ≡ None → NoLineWith b key
   unfolding find_line key_is
   no_line_so e x h = not_equal (key_at b.lines x) key (none_at (key_is b.lines key) (used_lines b) 0 x e (omega arith) (omega arith))
 
-  no_line_is : NoLineWith b key → find_line b key ≡ Nothing
+  no_line_is : NoLineWith b key → find_line b key ≡ None
   unfolding find_line key_is
   no_line_is h = none_is (key_is b.lines key) (used_lines b) 0 (λ x a c. not_same (key_at b.lines x) key (h x (omega arith)))
 
-  line_so : (i : ℕ) → find_line b key ≡ At i → LineWith b key i
+  line_so : (i : ℕ) → find_line b key ≡ Some i → LineWith b key i
   unfolding find_line key_is
   line_so i e =
       let f = found_at (key_is b.lines key) (used_lines b) 0 i e in
@@ -56,30 +53,30 @@ module _ (b : Lent) (key : List ℕ) where
         first = λ x h. not_equal (key_at b.lines x) key (first_so (key_is b.lines key) (used_lines b) 0 i e x (omega arith) h);
       }
 
-  line_is : (i : ℕ) → LineWith b key i → find_line b key ≡ At i
+  line_is : (i : ℕ) → LineWith b key i → find_line b key ≡ Some i
   unfolding find_line key_is
   line_is i l =
       first_is (key_is b.lines key) (used_lines b) 0 i (omega arith) (omega (arith, l.used)) (rw l.here (same_refl key))
       (λ x a c. not_same (key_at b.lines x) key (l.first x c))
 
   -- a search for a slip says whether one has the key
-  no_slip_so : find_slip b key ≡ Nothing → NoSlipWith b key
+  no_slip_so : find_slip b key ≡ None → NoSlipWith b key
   unfolding find_slip slip_is
   no_slip_so e x h = not_equal (slip_key_at b.slips x) key (none_at (slip_is b.slips key) (used_slips b) 0 x e (omega arith) (omega arith))
 
-  no_slip_is : NoSlipWith b key → find_slip b key ≡ Nothing
+  no_slip_is : NoSlipWith b key → find_slip b key ≡ None
   unfolding find_slip slip_is
   no_slip_is h = none_is (slip_is b.slips key) (used_slips b) 0 (λ x a c. not_same (slip_key_at b.slips x) key (h x (omega arith)))
 
 -- what the roster says of an account, said of its entries, and the other way round
 module _ (roster account : List ℕ) (ceiling : ℕ) where
-  on_roster_so : standing roster account ≡ On ceiling → OnRoster roster account ceiling
+  on_roster_so : standing roster account ≡ Some ceiling → OnRoster roster account ceiling
   unfolding standing standing_at find_account account_is
   on_roster_so e = go (first_from (account_is roster account) (entries roster) 0) refl e
     where
-      go : (f : Found) → first_from (account_is roster account) (entries roster) 0 ≡ f → standing_at roster f ≡ On ceiling → OnRoster roster account ceiling
-      go Nothing h q = let z : ◌≡◌ {A = ℕ} 0 1 = cc in absurd (omega arith)
-      go (At i) h q =
+      go : (f : Option ℕ) → first_from (account_is roster account) (entries roster) 0 ≡ f → standing_at roster f ≡ Some ceiling → OnRoster roster account ceiling
+      go None h q = let z : ◌≡◌ {A = ℕ} 0 1 = cc in absurd (omega arith)
+      go (Some i) h q =
           let f = found_at (account_is roster account) (entries roster) 0 i h in
           record {
             entry = i;
@@ -89,17 +86,17 @@ module _ (roster account : List ℕ) (ceiling : ℕ) where
             states = cc;
           }
 
-  pub on_roster_is : OnRoster roster account ceiling → standing roster account ≡ On ceiling
+  pub on_roster_is : OnRoster roster account ceiling → standing roster account ≡ Some ceiling
   unfolding standing standing_at find_account account_is
   on_roster_is o =
-      let f : first_from (account_is roster account) (entries roster) 0 ≡ At o.entry =
+      let f : first_from (account_is roster account) (entries roster) 0 ≡ Some o.entry =
       first_is (account_is roster account) (entries roster) 0 o.entry (omega arith) (omega (arith, o.there)) (rw o.here (same_refl account))
       (λ x a c. not_same (account_at roster x) account (o.first x c)) in
-      rw f (ap On o.states)
+      rw f (ap Some o.states)
 
 -- what the book judges to fit passes, for each kind
 module _ (s : List ℕ) (ceiling : ℕ) (b : Lent) where
-  passes_so : (k : Kind) (i : ℕ) → book_judged k s ceiling b ≡ Fits i → Passes k s ceiling b
+  passes_so : (k : Kind) (i : ℕ) → book_judged k s ceiling b ≡ Ok i → Passes k s ceiling b
   unfolding book_judged
   passes_so Order i e =
       let q = order_fits b i (school_in Order s) (copies_in Order s) ceiling (find_line b (line_key Order s)) e in

@@ -32,9 +32,7 @@ use Rattle.book.specs.Lent.{Lent, sound, find_line, find_slip}
 use Rattle.book.proofs.Sounds.{sound_so}
 use Rattle.book.specs.Booking.{line_key, article_in, slip_key, school_in, copies_in, mark_in, message_in, date_in, book_judged, line_after, done_as, told_in}
 use Rattle.book.specs.Asked.{figures_at, figures_of_key, line_asked}
-use Rattle.book.specs.declared.answer.Verdict.TheVariants.{Fits}
-use Rattle.cells.specs.declared.search.Found.{Found}
-use Rattle.cells.specs.declared.search.Found.TheVariants.{At, Nothing}
+use Rattle.std.specs.Prelude.{None, Ok, Option, Some}
 use Rattle.balance.specs.Met.{Met}
 use Rattle.balance.specs.Calls.{book_call}
 use Rattle.balance.specs.Told.{known_number, report_of, line_told, told, fit_as, fit_kind, fit_of}
@@ -87,15 +85,15 @@ unfolding line_told line_of
 line_of_law lines i = refl
 
 -- a used line of a sound book
-pub line_together : (b : Lent) (key : Key) (i : ℕ) → sound b ≡ true → find_line b key ≡ At i → Together (line_at b.lines i) (date_at b.lines i)
+pub line_together : (b : Lent) (key : Key) (i : ℕ) → sound b ≡ true → find_line b key ≡ Some i → Together (line_at b.lines i) (date_at b.lines i)
 line_together b key i h e =
     record { dated = unfold line_at in refl; said = sound_said b.lines i ((sound_so b h).line_sound_law i (line_used b key i e).0) }
 
 -- what is said of what a search found
-found_told : (b : Lent) (key : Key) → sound b ≡ true → (f : Found) → find_line b key ≡ f → figures_at b f ≡ says_of (line_with key (told b).lines)
+found_told : (b : Lent) (key : Key) → sound b ≡ true → (f : Option ℕ) → find_line b key ≡ f → figures_at b f ≡ says_of (line_with key (told b).lines)
 unfolding figures_at
-found_told b key h Nothing e = rw (no_line b key e) (unfold says_of in refl)
-found_told b key h (At i) e =
+found_told b key h None e = rw (no_line b key e) (unfold says_of in refl)
+found_told b key h (Some i) e =
     done_told (key_at b.lines i) (article_at b.lines i) (date_at b.lines i) (line_at b.lines i) (line_together b key i h e)
     ∙ ap says_of (ap some (sym (line_of_law b.lines i)) ∙ sym (line_found b key i e))
 
@@ -148,7 +146,7 @@ module _ (s roster : List ℕ) (b : Lent) (i : ℕ) where
   abbrev pub told_after : Kind → Line
   told_after k = line_of (key_after k s b i) (article_after k s b i) (date_after k s b i) (line_after k s b i)
 
-  order_found : find_line b (line_key Order s) ≡ Nothing → line_with (line_key Order s) (enter (told b) (fit_as Order s roster)).lines ≡ some (told_after Order)
+  order_found : find_line b (line_key Order s) ≡ None → line_with (line_key Order s) (enter (told b) (fit_as Order s roster)).lines ≡ some (told_after Order)
   unfolding line_after new_line fit_as enter line_with line_of report_of key_after article_after date_after
   order_found e =
       let key : Key = line_key Order s in
@@ -156,22 +154,22 @@ module _ (s roster : List ℕ) (b : Lent) (i : ℕ) where
       first_added (λ (x : Line). same key x.key) (told b).lines l (no_line b key e) (same_refl key)
 
   -- a line that is changed
-  changed_found : (key : Key) (l : Line) (f : Line → Line) → ((x : Line) → (f x).key ≡ x.key) → find_line b key ≡ At i
+  changed_found : (key : Key) (l : Line) (f : Line → Line) → ((x : Line) → (f x).key ≡ x.key) → find_line b key ≡ Some i
       → l ≡ f (line_told b.lines i) → line_with key (change_line key f (told b).lines) ≡ some l
   unfolding change_line line_with
   changed_found key l f h e d =
       let q : Line → Bool = λ x. same key x.key in
       first_changed q f (λ x. ap (same key) (h x)) (told b).lines (line_told b.lines i) (line_found b key i e) ∙ ap some (sym d)
 
-  goods_found : find_line b (line_key Goods s) ≡ At i → line_with (line_key Goods s) (enter (told b) (fit_as Goods s roster)).lines ≡ some (told_after Goods)
+  goods_found : find_line b (line_key Goods s) ≡ Some i → line_with (line_key Goods s) (enter (told b) (fit_as Goods s roster)).lines ≡ some (told_after Goods)
   unfolding line_after fit_as enter key_after article_after date_after line_of with_arrivals arrive line_told
   goods_found e = changed_found (line_key Goods s) _ (arrive (copies_in Goods s).0) (arrive_key (copies_in Goods s).0) e refl
 
-  report_found : find_line b (line_key Report s) ≡ At i → line_with (line_key Report s) (enter (told b) (fit_as Report s roster)).lines ≡ some (told_after Report)
+  report_found : find_line b (line_key Report s) ≡ Some i → line_with (line_key Report s) (enter (told b) (fit_as Report s roster)).lines ≡ some (told_after Report)
   unfolding line_after fit_as enter key_after article_after date_after line_of with_report tell line_told
   report_found e = changed_found (line_key Report s) _ (tell (said_in s)) (tell_key (said_in s)) e (rw (report_mark s) refl)
 
-  pub kind_found : (k : Kind) (ceiling : ℕ) → book_judged k s ceiling b ≡ Fits i
+  pub kind_found : (k : Kind) (ceiling : ℕ) → book_judged k s ceiling b ≡ Ok i
       → line_with (keyIn (fit_as k s roster)) (enter (told b) (fit_as k s roster)).lines ≡ some (told_after k)
   unfolding book_judged keyIn fit_as
   kind_found Order ceiling e = order_found (order_fits b i (school_in Order s) (copies_in Order s) ceiling (find_line b (line_key Order s)) e).0
@@ -180,7 +178,7 @@ module _ (s roster : List ℕ) (b : Lent) (i : ℕ) where
   kind_found Report ceiling e = report_found (report_fits_law b i (find_line b (line_key Report s)) e)
 
   -- what its line keeps of its last report goes together
-  pub kind_together : (k : Kind) (ceiling : ℕ) → sound b ≡ true → book_judged k s ceiling b ≡ Fits i → Together (line_after k s b i) (date_after k s b i)
+  pub kind_together : (k : Kind) (ceiling : ℕ) → sound b ≡ true → book_judged k s ceiling b ≡ Ok i → Together (line_after k s b i) (date_after k s b i)
   unfolding book_judged line_after date_after new_line with_arrivals with_report Said
   kind_together Order ceiling h e = record { dated = sym blank_date_law; said = (refl, refl) }
   kind_together Goods ceiling h e =

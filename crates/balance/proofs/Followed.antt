@@ -21,8 +21,7 @@ use Rattle.entry.specs.Stored.{key_width, ordered_at, slip_key_width, most_copie
 use Rattle.entry.proofs.Sound.{arrived_sound, reported_sound}
 use Rattle.entry.proofs.Kept.{Changed, same_key, arrived_changed, arrived_date, arrived_back, report_changed, report_date as date-back, report_back}
 use Rattle.roster.specs.Roster.{standing}
-use Rattle.roster.specs.declared.Standing.{Standing}
-use Rattle.roster.specs.declared.Standing.TheVariants.{On, Off}
+use Rattle.std.specs.Prelude.{Err, None, Ok, Option, Some}
 use Rattle.ledger.specs.Book.{Key, school_of, Report as Telling, Line, Slip}
 use Rattle.ledger.specs.Booking.{Fit, order as ordering, goods as arriving, report as telling, done, judge, arrive, tell, change_line, enter}
 use Rattle.book.specs.Lent.{Lent, used_lines, used_slips, line_room, slip_room, find_line, find_slip, open_copies}
@@ -30,12 +29,9 @@ use Rattle.book.specs.Booking.{line_key, article_in, slip_key, school_in, copies
 use Rattle.balance.specs.Met.{Met}
 use Rattle.balance.specs.Calls.{book_call}
 use Rattle.balance.specs.Told.{known_number, report_of, line_told, told, rooms_of, hold_of, ceiling_in, fit_as, fit_kind, fit_of}
-use Rattle.cells.specs.declared.search.Found.{Found}
-use Rattle.cells.specs.declared.search.Found.TheVariants.{At, Nothing}
 use Rattle.book.specs.declared.answer.Refused.{Refused}
 use Rattle.book.specs.declared.answer.Refused.TheVariants.{SlipBooked, SlipDiffers}
-use Rattle.book.specs.declared.answer.Verdict.{Verdict}
-use Rattle.book.specs.declared.answer.Verdict.TheVariants.{Refuse, Fits}
+use Rattle.book.specs.Verdicts.{Verdict}
 use Rattle.book.proofs.Sounds.{sound_so}
 use Rattle.balance.proofs.Listings.{change_listed}
 use Rattle.balance.proofs.Soundness.{Kept}
@@ -47,12 +43,12 @@ use Rattle.balance.proofs.Keys.{school_heads}
 use Rattle.balance.proofs.Opens.{order_passes}
 
 -- a verdict that fits after a test that refuses: the test does not hold, and the rest fits
-pub passed : (t : Bool) (r : Refused) (v : Verdict) (i : ℕ) → pick t (Refuse r) v ≡ Fits i → (t ≡ false) × (v ≡ Fits i)
+pub passed : (t : Bool) (r : Refused) (v : Verdict) (i : ℕ) → pick t (Err r) v ≡ Ok i → (t ≡ false) × (v ≡ Ok i)
 passed true r v i e = let z : ◌≡◌ {A = ℕ} 0 1 = cc in absurd (omega arith)
 passed false r v i e = (refl, e)
 
 -- a verdict that fits by a test that lets pass
-let_pass : (t : Bool) (v : Verdict) (r : Refused) (i : ℕ) → pick t v (Refuse r) ≡ Fits i → (t ≡ true) × (v ≡ Fits i)
+let_pass : (t : Bool) (v : Verdict) (r : Refused) (i : ℕ) → pick t v (Err r) ≡ Ok i → (t ≡ true) × (v ≡ Ok i)
 let_pass true v r i e = (refl, e)
 let_pass false v r i e = let z : ◌≡◌ {A = ℕ} 0 1 = cc in absurd (omega arith)
 
@@ -62,10 +58,10 @@ pub record FitPassed (k : Kind) (s roster : List ℕ) (b : Lent) (i : ℕ) : Typ
   pub copies : no_copies k s ≡ false
   pub referenced : no_reference k s ≡ false
   pub ceiling : ℕ
-  pub is_on_roster : standing roster (school_in k s) ≡ On ceiling
-  pub judged_fit : book_judged k s ceiling b ≡ Fits i
+  pub is_on_roster : standing roster (school_in k s) ≡ Some ceiling
+  pub judged_fit : book_judged k s ceiling b ≡ Ok i
 
-pub fit_passed : (k : Kind) (s roster : List ℕ) (b : Lent) (i : ℕ) → fit_judged k s roster b ≡ Fits i → FitPassed k s roster b i
+pub fit_passed : (k : Kind) (s roster : List ℕ) (b : Lent) (i : ℕ) → fit_judged k s roster b ≡ Ok i → FitPassed k s roster b i
 unfolding fit_judged
 fit_passed k s roster b i e =
     let one = passed (nothing_to_book k s) _ _ i e in
@@ -74,18 +70,18 @@ fit_passed k s roster b i e =
     go one.0 two.0 three.0 (standing roster (school_in k s)) refl three.1
   where
     go : nothing_to_book k s ≡ false → no_copies k s ≡ false → no_reference k s ≡ false
-        → (t : Standing) → standing roster (school_in k s) ≡ t → on_roster k s b t ≡ Fits i → FitPassed k s roster b i
-    go one two three Off h q = unfold on_roster in let z : ◌≡◌ {A = ℕ} 0 1 = cc in absurd (omega arith)
-    go one two three (On ceiling) h q =
+        → (t : Option ℕ) → standing roster (school_in k s) ≡ t → on_roster k s b t ≡ Ok i → FitPassed k s roster b i
+    go one two three None h q = unfold on_roster in let z : ◌≡◌ {A = ℕ} 0 1 = cc in absurd (omega arith)
+    go one two three (Some ceiling) h q =
         unfold on_roster in record { something = one; copies = two; referenced = three; ceiling = ceiling; is_on_roster = h; judged_fit = q }
 
 module _ (b : Lent) (i : ℕ) where
   -- an order that fits: no line has its key, its copies keep the ceiling, and there is room for the next line
-  pub order_fits : (school : List ℕ) (copies : Copies) (ceiling : ℕ) (f : Found) → order_judged b school copies ceiling f ≡ Fits i
-      → (f ≡ Nothing) × ((open_copies b school + copies.0 ≤ ceiling) × ((used_lines b < line_room b) × (i ≡ used_lines b)))
+  pub order_fits : (school : List ℕ) (copies : Copies) (ceiling : ℕ) (f : Option ℕ) → order_judged b school copies ceiling f ≡ Ok i
+      → (f ≡ None) × ((open_copies b school + copies.0 ≤ ceiling) × ((used_lines b < line_room b) × (i ≡ used_lines b)))
   unfolding order_judged new_line_judged
-  order_fits school copies ceiling (At j) e = let z : ◌≡◌ {A = ℕ} 0 1 = cc in absurd (omega arith)
-  order_fits school copies ceiling Nothing e =
+  order_fits school copies ceiling (Some j) e = let z : ◌≡◌ {A = ℕ} 0 1 = cc in absurd (omega arith)
+  order_fits school copies ceiling None e =
       let n : ℕ = open_copies b school + copies.0 in
       let below = let_pass (leb n ceiling) _ _ i e in
       let p = let_pass (ltb (used_lines b) (line_room b)) _ _ i below.1 in
@@ -93,7 +89,7 @@ module _ (b : Lent) (i : ℕ) where
       (refl, (leb-true n ceiling below.0, (ltb-true (used_lines b) (line_room b) p.0, cc)))
 
   -- a delivery that fits: no slip has its key, a line has its line key, and there is room for its copies and its slip
-  arrival_fits : (copies : Copies) (j : ℕ) → arrival_judged b copies j ≡ Fits i
+  arrival_fits : (copies : Copies) (j : ℕ) → arrival_judged b copies j ≡ Ok i
       → (i ≡ j) × (((line_at b.lines j).arrived.0 + copies.0 ≤ most_arrived) × (used_slips b < slip_room b))
   unfolding arrival_judged
   arrival_fits copies j e =
@@ -103,29 +99,29 @@ module _ (b : Lent) (i : ℕ) where
       let r = q.1 in
       (cc, (leb-true n most_arrived p.0, ltb-true (used_slips b) (slip_room b) q.0))
 
-  goods_fits : (copies : Copies) (f : Found) → goods_judged b copies f ≡ Fits i
-      → (f ≡ At i) × (((line_at b.lines i).arrived.0 + copies.0 ≤ most_arrived) × (used_slips b < slip_room b))
+  goods_fits : (copies : Copies) (f : Option ℕ) → goods_judged b copies f ≡ Ok i
+      → (f ≡ Some i) × (((line_at b.lines i).arrived.0 + copies.0 ≤ most_arrived) × (used_slips b < slip_room b))
   unfolding goods_judged
-  goods_fits copies Nothing e = let z : ◌≡◌ {A = ℕ} 0 1 = cc in absurd (omega arith)
-  goods_fits copies (At j) e =
+  goods_fits copies None e = let z : ◌≡◌ {A = ℕ} 0 1 = cc in absurd (omega arith)
+  goods_fits copies (Some j) e =
       let p = arrival_fits copies j e in
       let d = p.0 in
-      (ap At (sym d), (rw d p.1.0, p.1.1))
+      (ap Some (sym d), (rw d p.1.0, p.1.1))
 
-  pub delivery_fits : (key : List ℕ) (copies : Copies) (f : Found) → delivery_judged b key copies f ≡ Fits i
-      → (f ≡ Nothing) × ((find_line b key ≡ At i) × (((line_at b.lines i).arrived.0 + copies.0 ≤ most_arrived) × (used_slips b < slip_room b)))
+  pub delivery_fits : (key : List ℕ) (copies : Copies) (f : Option ℕ) → delivery_judged b key copies f ≡ Ok i
+      → (f ≡ None) × ((find_line b key ≡ Some i) × (((line_at b.lines i).arrived.0 + copies.0 ≤ most_arrived) × (used_slips b < slip_room b)))
   unfolding delivery_judged slip_judged
-  delivery_fits key copies (At j) e =
-      let p = let_pass (key_is b.lines key (slip_line_at b.slips j) && eqb (slip_copies_at b.slips j).0 copies.0) (Refuse SlipBooked) SlipDiffers i e in
+  delivery_fits key copies (Some j) e =
+      let p = let_pass (key_is b.lines key (slip_line_at b.slips j) && eqb (slip_copies_at b.slips j).0 copies.0) (Err SlipBooked) SlipDiffers i e in
       let q = p.1 in
       let z : ◌≡◌ {A = ℕ} 0 1 = cc in absurd (omega arith)
-  delivery_fits key copies Nothing e = (refl, goods_fits copies (find_line b key) e)
+  delivery_fits key copies None e = (refl, goods_fits copies (find_line b key) e)
 
   -- a report that fits: a line has its key
-  pub report_fits_law : (f : Found) → report_judged f ≡ Fits i → f ≡ At i
+  pub report_fits_law : (f : Option ℕ) → report_judged f ≡ Ok i → f ≡ Some i
   unfolding report_judged
-  report_fits_law Nothing e = let z : ◌≡◌ {A = ℕ} 0 1 = cc in absurd (omega arith)
-  report_fits_law (At j) e = cc
+  report_fits_law None e = let z : ◌≡◌ {A = ℕ} 0 1 = cc in absurd (omega arith)
+  report_fits_law (Some j) e = cc
 
 -- the told book accepts the record, is told with it entered, and the lent book stays sound with its rooms
 pub record Follows (b : Lent) (r : Fit) (c : Lent) : Type 0 where
@@ -135,7 +131,7 @@ pub record Follows (b : Lent) (r : Fit) (c : Lent) : Type 0 where
   pub rooms : rooms_of c ≡ rooms_of b
 
 -- the line with a key changed in the bytes is the first with this key changed in the told book
-module _ (b : Lent) (key : Key) (i : ℕ) (ls : List ℕ) (h : Line → Line) (k : Kept b) (f : find_line b key ≡ At i) (c : Changed ls b.lines i) where
+module _ (b : Lent) (key : Key) (i : ℕ) (ls : List ℕ) (h : Line → Line) (k : Kept b) (f : find_line b key ≡ Some i) (c : Changed ls b.lines i) where
   line_changed : line_told ls i ≡ h (line_told b.lines i) → (told (with_lines b ls)).lines ≡ change_line key h (told b).lines
   unfolding told change_line used_lines find_line
   line_changed e =
@@ -144,7 +140,7 @@ module _ (b : Lent) (key : Key) (i : ℕ) (ls : List ℕ) (h : Line → Line) (k
 
 -- an order is entered
 module _ (b : Lent) (key article : List ℕ) (copies : Copies) (k : Kept b) (wide : length key ≡ key_width) (whole : length (key ++ article) ≡ ordered_at) (least : 1 ≤ copies.0) (most : copies.0 ≤ most_copies) where
-  order_entered : (ceiling : ℕ) → find_line b key ≡ Nothing → open_copies b (school_of key) + copies.0 ≤ ceiling → used_lines b < line_room b
+  order_entered : (ceiling : ℕ) → find_line b key ≡ None → open_copies b (school_of key) + copies.0 ≤ ceiling → used_lines b < line_room b
       → Follows b (ordering key (record { copies = copies.0; article = article }) ceiling) (more_line b (key ++ article) copies)
   unfolding enter new_line line_of report_of
   order_entered ceiling e below room =
@@ -180,7 +176,7 @@ module _ (b : Lent) (k : Kept b) (i : ℕ) (used : i < used_lines b) (copies : C
 
 -- a delivery is entered
 module _ (b : Lent) (key slip : Key) (copies : Copies) (i : ℕ) (k : Kept b) (wide : length slip ≡ slip_key_width) (few : copies.0 ≤ most_copies) where
-  goods_entered : find_slip b slip ≡ Nothing → find_line b key ≡ At i → (most : (line_at b.lines i).arrived.0 + copies.0 ≤ most_arrived) → used_slips b < slip_room b
+  goods_entered : find_slip b slip ≡ None → find_line b key ≡ Some i → (most : (line_at b.lines i).arrived.0 + copies.0 ≤ most_arrived) → used_slips b < slip_room b
       → Follows b (arriving key (record { slip = slip; copies = copies.0 }))
       (more_slip (with_lines b (put_arrived b.lines i (with_arrivals copies (line_at b.lines i)).arrived)) slip i copies)
   unfolding enter used_lines used_slips slip_room
@@ -232,7 +228,7 @@ module _ (b : Lent) (s : List ℕ) (n i : ℕ) (k : Kept b) (fit : Fitting Repor
       reported_sound b.lines i (at b i k used) (mark_in s) (message_in s) (date_in s) (report_date s n fit) (report_small s n fit) (report_number s n fit)
       ((sound_so b k.is_sound).line_sound_law i used) (report_goes s n fit)
 
-report_entered : (b : Lent) (key : Key) (s : List ℕ) (n i : ℕ) → Kept b → Fitting Report s n → find_line b key ≡ At i
+report_entered : (b : Lent) (key : Key) (s : List ℕ) (n i : ℕ) → Kept b → Fitting Report s n → find_line b key ≡ Some i
     → Follows b (telling key (said_in s)) (with_lines b (put_report b.lines i (mark_in s) (message_in s) (date_in s)))
 unfolding enter
 report_entered b key s n i k fit f =
@@ -250,7 +246,7 @@ report_entered b key s n i k fit f =
     }
 
 module _ (s roster : List ℕ) (b : Lent) (i n : ℕ) (k : Kept b) where
-  order_follows : Fitting Order s n → fit_judged Order s roster b ≡ Fits i → Follows b (fit_as Order s roster) (lent_after Order s b i)
+  order_follows : Fitting Order s n → fit_judged Order s roster b ≡ Ok i → Follows b (fit_as Order s roster) (lent_after Order s b i)
   unfolding fit_as lent_after line_after no_copies book_judged ceiling_in
   order_follows fit e =
       let p = fit_passed Order s roster b i e in
@@ -262,28 +258,28 @@ module _ (s roster : List ℕ) (b : Lent) (i n : ℕ) (k : Kept b) where
       rw (d, p.is_on_roster)
       (order_entered b (line_key Order s) (article_in Order s) (copies_in Order s) k (order_key s n fit) (order_named s n fit) (omega arith) (order_copies s n fit) p.ceiling q.0 below q.1.1.0)
 
-  goods_follows : Fitting Goods s n → fit_judged Goods s roster b ≡ Fits i → Follows b (fit_as Goods s roster) (lent_after Goods s b i)
+  goods_follows : Fitting Goods s n → fit_judged Goods s roster b ≡ Ok i → Follows b (fit_as Goods s roster) (lent_after Goods s b i)
   unfolding fit_as lent_after line_after book_judged used_slips
   goods_follows fit e =
       let p = fit_passed Goods s roster b i e in
       let q = delivery_fits b i (line_key Goods s) (copies_in Goods s) (find_slip b (slip_key s)) p.judged_fit in
       goods_entered b (line_key Goods s) (slip_key s) (copies_in Goods s) i k (slip_key_width_law s n fit) (goods_copies s n fit) q.0 q.1.0 q.1.1.0 q.1.1.1
 
-  report_follows : Fitting Report s n → fit_judged Report s roster b ≡ Fits i → Follows b (fit_as Report s roster) (lent_after Report s b i)
+  report_follows : Fitting Report s n → fit_judged Report s roster b ≡ Ok i → Follows b (fit_as Report s roster) (lent_after Report s b i)
   unfolding fit_as lent_after book_judged
   report_follows fit e =
       let p = fit_passed Report s roster b i e in
       report_entered b (line_key Report s) s n i k fit (report_fits_law b i (find_line b (line_key Report s)) p.judged_fit)
 
   -- a record of any kind; a closing record never fits
-  kind_follows : (j : Kind) → Fitting j s n → fit_judged j s roster b ≡ Fits i → Follows b (fit_as j s roster) (lent_after j s b i)
+  kind_follows : (j : Kind) → Fitting j s n → fit_judged j s roster b ≡ Ok i → Follows b (fit_as j s roster) (lent_after j s b i)
   kind_follows Order fit e = order_follows fit e
   kind_follows Goods fit e = goods_follows fit e
   kind_follows Closing fit e =
       let p = fit_passed Closing s roster b i e in
       closing_never p.ceiling p.judged_fit
     where
-      closing_never : (ceiling : ℕ) → book_judged Closing s ceiling b ≡ Fits i → Follows b (fit_as Closing s roster) (lent_after Closing s b i)
+      closing_never : (ceiling : ℕ) → book_judged Closing s ceiling b ≡ Ok i → Follows b (fit_as Closing s roster) (lent_after Closing s b i)
       closing_never ceiling e = unfold book_judged in let z : ◌≡◌ {A = ℕ} 0 1 = cc in absurd (omega arith)
   kind_follows Report fit e = report_follows fit e
 

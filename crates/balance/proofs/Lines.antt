@@ -13,7 +13,7 @@ use Rattle.rules.specs.declared.expected.Expected.TheVariants.{Blanks}
 use Rattle.record.specs.Layout.{kind_of}
 use Rattle.record.specs.declared.layout.Kind.{Kind}
 use Rattle.record.specs.declared.layout.Kind.TheVariants.{Order, Goods, Closing, Report}
-use Rattle.record.specs.declared.layout.Kinded.TheVariants.{Known}
+use Rattle.std.specs.Prelude.{Some}
 use Rattle.entry.specs.Report.{blank_date}
 use Rattle.entry.specs.declared.report.Message.{Message}
 use Rattle.entry.specs.declared.report.Message.TheVariants.{NoReport}
@@ -59,7 +59,7 @@ unfolding last_report last_said keep fit_of fit_kind fit_as is_report nothing_to
 last_report_law [] h m n d = refl
 last_report_law (s ∷ ss) h m n d = go h.0.kind h.0.known h.0.something (λ a b c. last_report_law ss h.1 a b c)
   where
-    go : (k : Kind) → kind_of s.given ≡ Known k → nothing_to_book k s.given ≡ false
+    go : (k : Kind) → kind_of s.given ≡ Some k → nothing_to_book k s.given ≡ false
         → ((a : Mark) (b : Message) (c : List ℕ) → last_report (report_of a b c) (map fit_of ss) ≡ last_of a b c (keep is_report ss))
         → last_report (report_of m n d) (fit_of s ∷ map fit_of ss) ≡ last_of m n d (pick (is_report s) (s ∷ keep is_report ss) (keep is_report ss))
     go Order e t rest = rw e (rest m n d)
@@ -108,7 +108,7 @@ unfolding lineGiven first_begun fit_of fit_kind fit_as is_order nothing_to_book
 own_begun key [] h = refl
 own_begun key (s ∷ ss) h = go h.0.kind h.0.known h.0.something (own_begun key ss h.1)
   where
-    go : (k : Kind) → kind_of s.given ≡ Known k → nothing_to_book k s.given ≡ false → foremost (lineGiven key (map fit_of ss)) ≡ first_begun key ss
+    go : (k : Kind) → kind_of s.given ≡ Some k → nothing_to_book k s.given ≡ false → foremost (lineGiven key (map fit_of ss)) ≡ first_begun key ss
         → foremost (lineGiven key (fit_of s ∷ map fit_of ss)) ≡ first_begun key (s ∷ ss)
     go Order e n rest =
         let c : copies_on s ≡ (copies_in Order s.given).0 = unfold copies_on in rw e refl in

@@ -12,7 +12,7 @@ use Rattle.cells.specs.Search.{first_from}
 use Rattle.cells.proofs.Bools.{split}
 use Rattle.ledger.specs.Lists.{first, change}
 use Rattle.balance.specs.Told.{listed}
-use Rattle.cells.specs.declared.search.Found.TheVariants.{At, Nothing}
+use Rattle.std.specs.Prelude.{None, Some}
 use Rattle.cells.proofs.Searches.{found_at}
 
 module _ {A : Type 0} where
@@ -40,7 +40,7 @@ module _ {A : Type 0} where
   -- a test of entries that is a test of their places
   module _ (q : A → Bool) (p : ℕ → Bool) (f : ℕ → A) (same : (x : ℕ) → q (f x) ≡ p x) where
     -- no place is found: no entry passes
-    pub none_listed : (n i : ℕ) → first_from p n i ≡ Nothing → first q (listed f n i) ≡ none
+    pub none_listed : (n i : ℕ) → first_from p n i ≡ None → first q (listed f n i) ≡ none
     unfolding listed first_from first
     none_listed zero i e = refl
     none_listed (suc n) i e =
@@ -49,7 +49,7 @@ module _ {A : Type 0} where
         (λ h. rw (same i, h) (none_listed n (suc i) (rw h at e)))
 
     -- the entry at the place found is the first that passes
-    pub first_listed : (n i j : ℕ) → first_from p n i ≡ At j → first q (listed f n i) ≡ some (f j)
+    pub first_listed : (n i j : ℕ) → first_from p n i ≡ Some j → first q (listed f n i) ≡ some (f j)
     unfolding listed first_from first
     first_listed zero i j e = let z : ◌≡◌ {A = ℕ} 0 1 = cc in absurd (omega arith)
     first_listed (suc n) i j e =
@@ -58,7 +58,7 @@ module _ {A : Type 0} where
         (λ h. rw (same i, h) (first_listed n (suc i) j (rw h at e)))
 
     -- a change of the first that passes changes the entry at the place found
-    pub change_listed : (h : A → A) (g : ℕ → A) (n i j : ℕ) → first_from p n i ≡ At j → g j ≡ h (f j) → ((x : ℕ) → x ≢ j → g x ≡ f x)
+    pub change_listed : (h : A → A) (g : ℕ → A) (n i j : ℕ) → first_from p n i ≡ Some j → g j ≡ h (f j) → ((x : ℕ) → x ≢ j → g x ≡ f x)
         → listed g n i ≡ change q h (listed f n i)
     unfolding listed first_from change
     change_listed h g zero i j e here apart = let z : ◌≡◌ {A = ℕ} 0 1 = cc in absurd (omega arith)
@@ -69,6 +69,6 @@ module _ {A : Type 0} where
         rw (same i, t)
         (ap₂ (λ (a : A) (l : List A). a ∷ l) (ap g d ∙ here ∙ ap (λ (x : ℕ). h (f x)) (sym d)) (listed_same g f n (suc i) (λ x a c. apart x (λ k. omega arith)))))
         (λ t.
-        let w : first_from p n (suc i) ≡ At j = rw t at e in
+        let w : first_from p n (suc i) ≡ Some j = rw t at e in
         let l = (found_at p n (suc i) j w).0 in
         rw (same i, t) (ap₂ (λ (a : A) (l : List A). a ∷ l) (apart i (λ k. omega arith)) (change_listed h g n (suc i) j w here apart)))

@@ -9,7 +9,7 @@ use lib.Seq.{slice, take-take}
 use borrow.Author.Tests.{lt-leb, le-ltb}
 use Rattle.cells.specs.Bytes.{pick}
 use Rattle.cells.specs.Search.{sum_from}
-use Rattle.cells.specs.declared.search.Found.TheVariants.{Nothing}
+use Rattle.std.specs.Prelude.{None}
 use Rattle.cells.proofs.Bools.{split}
 use Rattle.cells.proofs.Parts.{take_from}
 use Rattle.entry.specs.Line.{open_of as openBy, filled_of, figures_of}
@@ -64,7 +64,7 @@ open_told b school =
     sum_listed (open_at b.lines school) (λ (l : Line). of_school school l.key) still_open (line_told b.lines) (λ x. open_at_told b.lines x school) (used_lines b) 0
 
 -- an order that the bytes let pass, the told book lets pass
-pub order_passes : (b : Lent) (key : Key) (o : Order) (ceiling : ℕ) → find_line b key ≡ Nothing → open_copies b (school_of key) + o.copies ≤ ceiling
+pub order_passes : (b : Lent) (key : Key) (o : Order) (ceiling : ℕ) → find_line b key ≡ None → open_copies b (school_of key) + o.copies ≤ ceiling
     → used_lines b < line_room b → judge (rooms_of b) (told b) (order key o ceiling) ≡ done
 unfolding judge tests first_of found rooms_of
 order_passes b key o ceiling e below h =

@@ -1,9 +1,8 @@
 -- When a record is accepted: the booking call answers 0 exactly where none of the refusals that its order names holds, each said of the lent bytes.
-use Rattle.std.specs.Prelude.{ℕ, ◌+◌, ◌≤◌, ◌<◌, ◌≡◌, true, false, ◌≢◌, List}
+use Rattle.std.specs.Prelude.{ℕ, ◌+◌, ◌≤◌, ◌<◌, ◌≡◌, true, false, ◌≢◌, List, Some}
 use Rattle.record.specs.Layout.{kind_of}
 use Rattle.record.specs.declared.layout.Kind.{Kind}
 use Rattle.record.specs.declared.layout.Kind.TheVariants.{Order, Goods, Closing, Report}
-use Rattle.record.specs.declared.layout.Kinded.TheVariants.{Known}
 use Rattle.entry.specs.Stored.{most_arrived, line_at, key_at, slip_key_at}
 use Rattle.roundtrip.specs.Record.{IsRecord}
 use Rattle.roster.specs.Roster.{entries, roster_sound, account_at, ceiling_at}
@@ -67,7 +66,7 @@ pub record Acceptable (s : Met) (b : Lent) : Type 0 where
   -- 1 to 10
   pub is_record : IsRecord s.given
   pub kind : Kind
-  pub named : kind_of s.given ≡ Known kind
+  pub named : kind_of s.given ≡ Some kind
   -- 13, 11, 12
   pub something : nothing_to_book kind s.given ≡ false
   pub copies : no_copies kind s.given ≡ false

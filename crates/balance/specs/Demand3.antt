@@ -1,12 +1,10 @@
 -- Demand 3 in the calls' own words: what holds after any byte strings, each with the roster that it met, were given, one after the other, to the booking call. It speaks of what the booking call and the call by key answer, and of how a record's key fields and copies stand in it; of nothing else in the book.
-use Rattle.std.specs.Prelude.{ℕ, ◌+◌, ◌≤◌, ◌≡◌, Bool, true, false, ◌&&◌, List, [], ◌∷◌, ◌++◌, eqb, length, take}
+use Rattle.std.specs.Prelude.{ℕ, ◌+◌, ◌≤◌, ◌≡◌, Bool, true, false, ◌&&◌, List, [], ◌∷◌, ◌++◌, eqb, length, take, None, Option, Some}
 use Rattle.cells.specs.Bytes.{pick, same, joined}
 use Rattle.rules.specs.Values.{copies, expected_of}
 use Rattle.rules.specs.declared.expected.Expected.TheVariants.{Blanks}
 use Rattle.record.specs.Layout.{kind_of}
 use Rattle.record.specs.declared.layout.Kind.TheVariants.{Order, Goods, Closing, Report}
-use Rattle.record.specs.declared.layout.Kinded.{Kinded}
-use Rattle.record.specs.declared.layout.Kinded.TheVariants.{Known, Unknown}
 use Rattle.entry.specs.declared.line.Line.{Line}
 use Rattle.entry.specs.declared.line.Mark.TheVariants.{Unmarked}
 use Rattle.entry.specs.declared.report.Message.TheVariants.{NoReport}
@@ -19,14 +17,15 @@ use Rattle.book.specs.declared.answer.Told.{Told}
 use Rattle.balance.specs.Met.{Met}
 use Rattle.balance.specs.Calls.{book_call, ask_call}
 use Rattle.balance.specs.Accepted.{OnRoster, AcceptedExactly}
+use Rattle.record.specs.declared.layout.Kind.{Kind}
 
 -- one of four, by the kind of a record: an order, a delivery of goods, a report, or anything else
-abbrev pub by_kind : {A : Type 0} → A → A → A → A → Kinded → A
-by_kind order goods report other (Known Order) = order
-by_kind order goods report other (Known Goods) = goods
-by_kind order goods report other (Known Report) = report
-by_kind order goods report other (Known Closing) = other
-by_kind order goods report other Unknown = other
+abbrev pub by_kind : {A : Type 0} → A → A → A → A → Option Kind → A
+by_kind order goods report other (Some Order) = order
+by_kind order goods report other (Some Goods) = goods
+by_kind order goods report other (Some Report) = report
+by_kind order goods report other (Some Closing) = other
+by_kind order goods report other None = other
 
 unfoldable pub is_order : Met → Bool
 is_order s = by_kind true false false false (kind_of s.given)

@@ -1,14 +1,12 @@
 -- The figures and the last report that the calls answer are those of the book that the bytes tell; and the rule on lists refuses with the same numbers.
-use Rattle.std.specs.Prelude.{ℕ, ◌≤◌, ◌≡◌, true, false, List, map, length}
+use Rattle.std.specs.Prelude.{ℕ, ◌≤◌, ◌≡◌, true, false, List, map, length, Ok, Some}
 use Rattle.std.proofs.Math.Option.{Option, none, some}
 use Rattle.cells.specs.Bytes.{pick, joined}
 use Rattle.rules.specs.Values.{copies, expected_of}
 use Rattle.rules.specs.declared.expected.Expected.TheVariants.{Blanks}
 use Rattle.record.specs.Layout.{kind_of}
 use Rattle.record.specs.Read.{judged}
-use Rattle.record.specs.declared.answer.Verdict.TheVariants.{Fits as ReadFits}
 use Rattle.record.specs.declared.layout.Kind.{Kind}
-use Rattle.record.specs.declared.layout.Kinded.TheVariants.{Known}
 use Rattle.entry.specs.Report.{report_told}
 use Rattle.entry.specs.declared.line.Figures.{Figures}
 use Rattle.entry.specs.declared.report.Message.{Message}
@@ -20,7 +18,6 @@ use Rattle.ledger.specs.History.{State}
 use Rattle.ledger.specs.Demand3.{Promise3}
 use Rattle.book.specs.Lent.{Lent, sound, open_copies}
 use Rattle.roster.specs.Roster.{roster_sound, standing}
-use Rattle.roster.specs.declared.Standing.TheVariants.{On}
 use Rattle.book.specs.Booking.{nothing_to_book, no_copies, no_reference, school_in, refused_as, told_in}
 use Rattle.book.specs.Asked.{key_widths, are_wide}
 use Rattle.book.specs.declared.answer.Refused.TheVariants.{Unsound, NoLine}
@@ -65,9 +62,9 @@ BookedTells = (s : Met) (b : Lent) → length b.used ≡ 2 → (book_call s b).s
 -- of a record that is read and has something to book, for a school on the roster, booking and the rule on lists give one number
 abbrev pub NumbersAgree : Type 0
 NumbersAgree = (s : Met) (b : Lent) (n : ℕ) (k : Kind) (ceiling : ℕ) → roster_sound s.roster ≡ true → sound b ≡ true
-    → judged s.given ≡ ReadFits n → kind_of s.given ≡ Known k
+    → judged s.given ≡ Ok n → kind_of s.given ≡ Some k
     → nothing_to_book k s.given ≡ false → no_copies k s.given ≡ false → no_reference k s.given ≡ false
-    → standing s.roster (school_in k s.given) ≡ On ceiling
+    → standing s.roster (school_in k s.given) ≡ Some ceiling
     → (book_call s b).said.answer ≡ number_of (judge (rooms_of b) (told b) (fit_of s))
 
 -- in any lent book an accepted order leaves its school's open copies at most at its ceiling on the roster that the order met

@@ -1,11 +1,9 @@
 -- The book that lent bytes tell, as a list of lines and a list of slips (`ledger`), and the record that bytes are fit to book as.
-use Rattle.std.specs.Prelude.{ℕ, zero, suc, List, [], ◌∷◌}
+use Rattle.std.specs.Prelude.{ℕ, zero, suc, List, [], ◌∷◌, None, Option, Some}
 use Rattle.std.proofs.Math.Option.{Option, none, some}
 use Rattle.record.specs.Layout.{kind_of}
 use Rattle.record.specs.declared.layout.Kind.{Kind}
 use Rattle.record.specs.declared.layout.Kind.TheVariants.{Order as order, Goods as goods, Closing as closing, Report as report}
-use Rattle.record.specs.declared.layout.Kinded.{Kinded}
-use Rattle.record.specs.declared.layout.Kinded.TheVariants.{Known, Unknown}
 use Rattle.entry.specs.Stored.{line_at, date_at, key_at, article_at, slip_key_at, slip_line_at, slip_copies_at}
 use Rattle.entry.specs.declared.report.Message.{Message}
 use Rattle.entry.specs.declared.report.Message.TheVariants.{NoReport, Unknown, Numbered}
@@ -15,8 +13,6 @@ use Rattle.ledger.specs.Book.{Hold, J, N, Report, Line, Slip, Book, Rooms}
 use Rattle.ledger.specs.Booking.{Fit, order as ordering, goods as arriving, report as telling}
 use Rattle.book.specs.Lent.{Lent, used_lines, used_slips, line_room, slip_room}
 use Rattle.roster.specs.Roster.{standing}
-use Rattle.roster.specs.declared.Standing.{Standing}
-use Rattle.roster.specs.declared.Standing.TheVariants.{On, Off}
 use Rattle.book.specs.Booking.{line_key, article_in, slip_key, school_in, copies_in, mark_in, message_in, date_in}
 use Rattle.balance.specs.Met.{Met}
 
@@ -28,7 +24,7 @@ listed f (suc n) i = f i ∷ listed f n (suc i)
 -- the number of a message, if it is known
 unfoldable pub known_number : Message → Option ℕ
 known_number NoReport = none
-known_number Unknown = none
+known_number None = none
 known_number (Numbered n) = some n
 
 -- a mark, a message and the bytes of an expected date as the last report
@@ -60,9 +56,9 @@ hold_of Held = J
 hold_of Dropped = N
 
 -- the ceiling of a school on a roster; one that is not on it books nothing, so its 0 is never asked for
-unfoldable pub ceiling_in : Standing → ℕ
-ceiling_in (On ceiling) = ceiling
-ceiling_in Off = 0
+unfoldable pub ceiling_in : Option ℕ → ℕ
+ceiling_in (Some ceiling) = ceiling
+ceiling_in None = 0
 
 -- the record that bytes of a kind are fit to book as, an order with the ceiling that its school has on the roster; a closing record never is
 unfoldable pub fit_as : Kind → List ℕ → List ℕ → Fit
@@ -71,9 +67,9 @@ fit_as goods s roster = arriving (line_key goods s) (record { slip = slip_key s;
 fit_as closing s roster = telling [] (record { hold = J; message = none; date = [] })
 fit_as report s roster = telling (line_key report s) (record { hold = hold_of (mark_in s); message = known_number (message_in s); date = date_in s })
 
-unfoldable pub fit_kind : Kinded → List ℕ → List ℕ → Fit
-fit_kind Unknown s roster = fit_as closing s roster
-fit_kind (Known k) s roster = fit_as k s roster
+unfoldable pub fit_kind : Option Kind → List ℕ → List ℕ → Fit
+fit_kind None s roster = fit_as closing s roster
+fit_kind (Some k) s roster = fit_as k s roster
 
 unfoldable pub fit_of : Met → Fit
 fit_of s = fit_kind (kind_of s.given) s.given s.roster

@@ -9,13 +9,12 @@ use Rattle.cells.specs.Search.{first_from}
 use Rattle.entry.specs.Stored.{line_width, slip_width, most_arrived, line_at, key_is, slip_is, slip_line_at}
 use Rattle.entry.proofs.Sound.{sound_bounded}
 use Rattle.book.specs.Lent.{Lent, lent, used_lines, used_slips, sound, find_line, find_slip}
-use Rattle.cells.specs.declared.search.Found.{Found}
-use Rattle.cells.specs.declared.search.Found.TheVariants.{At}
+use Rattle.std.specs.Prelude.{Option, Some}
 use Rattle.cells.proofs.Searches.{found_at}
 use Rattle.book.proofs.Sounds.{sound_so}
 
 -- a search of the code over the used lines, or slips, is the search of the book
-module _ (lines slips used key : List ℕ) {k : List ℕ} {r f : Found} where
+module _ (lines slips used key : List ℕ) {k : List ℕ} {r f : (Option ℕ)} where
   pub line_search : r ≡ first_from (key_is lines k) (get_or used 0 0) 0 → k ≡ key → r ≡ f → find_line (lent lines slips used) key ≡ f
   unfolding find_line used_lines
   line_search e h g = ap (λ (t : List ℕ). first_from (key_is lines t) (get_or used 0 0) 0) (sym h) ∙ sym e ∙ g
@@ -36,7 +35,7 @@ module _ (lines slips used : List ℕ) (h : sound (lent lines slips used) ≡ tr
 
 -- so does the line that is found, and its sum is within its bound
 module _ (b : Lent) (h : sound b ≡ true) (key : List ℕ) (i : ℕ) where
-  pub line_stands : find_line b key ≡ At i → (line_width * i + line_width ≤ length b.lines) × ((line_at b.lines i).arrived.0 ≤ most_arrived)
+  pub line_stands : find_line b key ≡ Some i → (line_width * i + line_width ≤ length b.lines) × ((line_at b.lines i).arrived.0 ≤ most_arrived)
   unfolding find_line
   line_stands e =
       let s = sound_so b h in
@@ -45,7 +44,7 @@ module _ (b : Lent) (h : sound b ≡ true) (key : List ℕ) (i : ℕ) where
       (omega (arith, s.lines_in), (sound_bounded b.lines i (s.line_sound_law i l)).sum)
 
   -- and the slip that is found, and the line that it names
-  pub slip_stands : find_slip b key ≡ At i → (slip_width * i + slip_width ≤ length b.slips) × (line_width * slip_line_at b.slips i + line_width ≤ length b.lines)
+  pub slip_stands : find_slip b key ≡ Some i → (slip_width * i + slip_width ≤ length b.slips) × (line_width * slip_line_at b.slips i + line_width ≤ length b.lines)
   unfolding find_slip
   slip_stands e =
       let s = sound_so b h in

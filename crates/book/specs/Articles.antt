@@ -1,17 +1,16 @@
 -- Cases of articles: whether a record named its line's article, and that no answer and no figure hangs on it (RULES 6.1, 7.2).
-use Rattle.std.specs.Prelude.{ℕ, suc, ◌&&◌, List, [], ◌∷◌, map, eqb}
+use Rattle.std.specs.Prelude.{ℕ, suc, ◌&&◌, List, [], ◌∷◌, map, eqb, None, Option, Some}
 use Prim.Native.String.{String}
 use Rattle.std.proofs.lemmas.List.Edits.{sets}
 use Rattle.cells.specs.Bytes.{pick, bytes}
 use Rattle.record.specs.Samples.{X, Y, Z, put}
 use Rattle.record.specs.Layout.{kind_of}
 use Rattle.record.specs.declared.layout.Kind.TheVariants.{Order, Goods, Closing, Report}
-use Rattle.record.specs.declared.layout.Kinded.{Kinded}
-use Rattle.record.specs.declared.layout.Kinded.TheVariants.{Known, Unknown}
 use Rattle.entry.specs.Stored.{key_width}
 use Rattle.book.specs.Lent.{Lent}
 use Rattle.book.specs.Booking.{lent_after, book}
 use Rattle.book.specs.Cases.{roomy, schools, with_x, with_both, sample}
+use Rattle.record.specs.declared.layout.Kind.{Kind}
 
 -- a record given to a lent book, with its answer and whether the articles agreed
 pub record Naming : Type 0 where
@@ -108,12 +107,12 @@ first_wrong n (t ∷ ts) =
     n
 
 -- a delivery or a report under the supplier's own number
-abbrev under_own : Kinded → List ℕ → List ℕ
-under_own (Known Order) s = s
-under_own (Known Goods) s = put 60 own_number s
-under_own (Known Closing) s = s
-under_own (Known Report) s = put 48 own_number s
-under_own Unknown s = s
+abbrev under_own : Option Kind → List ℕ → List ℕ
+under_own (Some Order) s = s
+under_own (Some Goods) s = put 60 own_number s
+under_own (Some Closing) s = s
+under_own (Some Report) s = put 48 own_number s
+under_own None s = s
 
 -- the desk's eight records, all that came back under the supplier's own number: they are answered as in RULES 12
 unfoldable pub own_sample : List (List ℕ)

@@ -1,8 +1,6 @@
 -- Asking for a line by the fields of its key (RULES 8).
-use Rattle.std.specs.Prelude.{ℕ, Bool, true, false, ◌&&◌, List, [], ◌∷◌, eqb, length}
+use Rattle.std.specs.Prelude.{ℕ, Bool, true, false, ◌&&◌, List, [], ◌∷◌, eqb, length, None, Option, Some}
 use Rattle.cells.specs.Bytes.{pick, joined}
-use Rattle.cells.specs.declared.search.Found.{Found}
-use Rattle.cells.specs.declared.search.Found.TheVariants.{At, Nothing}
 use Rattle.entry.specs.Stored.{line_at}
 use Rattle.book.specs.Lent.{Lent, sound, find_line}
 use Rattle.book.specs.Booking.{refused_as, done_as}
@@ -20,9 +18,9 @@ are_wide [] (f ∷ fs) = false
 are_wide (w ∷ ws) [] = false
 are_wide (w ∷ ws) (f ∷ fs) = eqb (length f) w && are_wide ws fs
 
-unfoldable pub figures_at : Lent → Found → Told
-figures_at b Nothing = refused_as NoLine
-figures_at b (At i) = done_as (line_at b.lines i)
+unfoldable pub figures_at : Lent → Option ℕ → Told
+figures_at b None = refused_as NoLine
+figures_at b (Some i) = done_as (line_at b.lines i)
 
 -- what is asked of a sound book; the key's fields are not judged by the field rules
 unfoldable pub figures_of_key : List (List ℕ) → Lent → Told

@@ -1,11 +1,7 @@
 -- Booking a record into a lent book: its refusals in their order, and what an accepted record changes (RULES 7).
-use Rattle.std.specs.Prelude.{ℕ, ◌+◌, Bool, true, false, ◌&&◌, List, [], ◌∷◌, ◌++◌, map, eqb, leb, ltb, take, set}
+use Rattle.std.specs.Prelude.{ℕ, ◌+◌, Bool, true, false, ◌&&◌, List, [], ◌∷◌, ◌++◌, map, eqb, leb, ltb, take, set, Err, None, Ok, Option, Some}
 use Rattle.cells.specs.Bytes.{pick, bytes, same, joined}
-use Rattle.cells.specs.declared.search.Found.{Found}
-use Rattle.cells.specs.declared.search.Found.TheVariants.{At, Nothing}
 use Rattle.roster.specs.Roster.{roster_sound, standing}
-use Rattle.roster.specs.declared.Standing.{Standing}
-use Rattle.roster.specs.declared.Standing.TheVariants.{On, Off}
 use Rattle.signs.specs.Class.{all_of}
 use Rattle.rules.specs.Number.{number}
 use Rattle.rules.specs.Values.{copies, copies_of, expected_of}
@@ -15,12 +11,9 @@ use Rattle.record.specs.Layout.{kind_of}
 use Rattle.record.specs.Answers.{refusal_number, refusal_place}
 use Rattle.record.specs.Values.{field_bytes}
 use Rattle.record.specs.Read.{judged}
-use Rattle.record.specs.declared.answer.Verdict.{Verdict as Reading}
-use Rattle.record.specs.declared.answer.Verdict.TheVariants.{Refused as ReadRefused, Fits as ReadFits}
+use Rattle.record.specs.Verdicts.{Verdict as Reading}
 use Rattle.record.specs.declared.layout.Kind.{Kind}
 use Rattle.record.specs.declared.layout.Kind.TheVariants.{Order, Goods, Closing, Report}
-use Rattle.record.specs.declared.layout.Kinded.{Kinded}
-use Rattle.record.specs.declared.layout.Kinded.TheVariants.{Known, Unknown}
 use Rattle.entry.specs.Line.{new_line, with_report, with_arrivals, figures_of, reported_of}
 use Rattle.entry.specs.Stored.{most_arrived, line_at, put_arrived, put_report, add_line, key_is, article_is, slip_line_at, slip_copies_at, add_slip}
 use Rattle.entry.specs.declared.line.Mark.{Mark}
@@ -33,8 +26,7 @@ use Rattle.entry.specs.declared.report.Reported.{Reported}
 use Rattle.book.specs.Lent.{Lent, used_lines, used_slips, line_room, slip_room, sound, find_line, find_slip, open_copies}
 use Rattle.book.specs.declared.answer.Refused.{Refused}
 use Rattle.book.specs.declared.answer.Refused.TheVariants.{Unsound, Unread, NothingToBook, NoCopies, NoReference, LineExists, LinesUsed, NoLine, SlipBooked, SlipDiffers, SlipsUsed, TooManyArrived, NotOnRoster, CeilingPassed}
-use Rattle.book.specs.declared.answer.Verdict.{Verdict}
-use Rattle.book.specs.declared.answer.Verdict.TheVariants.{Refuse, Fits}
+use Rattle.book.specs.Verdicts.{Verdict}
 use Rattle.book.specs.declared.answer.Told.{Told}
 use Rattle.book.specs.declared.answer.Booked.{Booked}
 
@@ -151,58 +143,58 @@ date_in s = field_bytes Report 11 s
 -- 25, 15: so many copies of the school would be open
 unfoldable pub new_line_judged : Lent → ℕ → ℕ → Verdict
 new_line_judged b copies ceiling =
-    pick (leb copies ceiling) (pick (ltb (used_lines b) (line_room b)) (Fits (used_lines b)) (Refuse LinesUsed)) (Refuse CeilingPassed)
+    pick (leb copies ceiling) (pick (ltb (used_lines b) (line_room b)) (Ok (used_lines b)) (Err LinesUsed)) (Err CeilingPassed)
 
 -- 14, then 25 and 15, of so many copies for a school with a ceiling
-unfoldable pub order_judged : Lent → List ℕ → Copies → ℕ → Found → Verdict
-order_judged b school n ceiling (At i) = Refuse LineExists
-order_judged b school n ceiling Nothing = new_line_judged b (open_copies b school + n.0) ceiling
+unfoldable pub order_judged : Lent → List ℕ → Copies → ℕ → Option ℕ → Verdict
+order_judged b school n ceiling (Some i) = Err LineExists
+order_judged b school n ceiling None = new_line_judged b (open_copies b school + n.0) ceiling
 
 -- 17 or 18: the slip key is booked at j, with the same line key and quantity or with another
 unfoldable pub slip_judged : Lent → List ℕ → Copies → ℕ → Verdict
 slip_judged b key n j =
-    pick (key_is b.lines key (slip_line_at b.slips j) && eqb (slip_copies_at b.slips j).0 n.0) (Refuse SlipBooked) (Refuse SlipDiffers)
+    pick (key_is b.lines key (slip_line_at b.slips j) && eqb (slip_copies_at b.slips j).0 n.0) (Err SlipBooked) (Err SlipDiffers)
 
 -- 21, 19 where the line stands at i
 unfoldable pub arrival_judged : Lent → Copies → ℕ → Verdict
 arrival_judged b n i =
     pick (leb ((line_at b.lines i).arrived.0 + n.0) most_arrived)
-    (pick (ltb (used_slips b) (slip_room b)) (Fits i) (Refuse SlipsUsed))
-    (Refuse TooManyArrived)
+    (pick (ltb (used_slips b) (slip_room b)) (Ok i) (Err SlipsUsed))
+    (Err TooManyArrived)
 
 -- 16, then 21 and 19
-unfoldable pub goods_judged : Lent → Copies → Found → Verdict
-goods_judged b n Nothing = Refuse NoLine
-goods_judged b n (At i) = arrival_judged b n i
+unfoldable pub goods_judged : Lent → Copies → Option ℕ → Verdict
+goods_judged b n None = Err NoLine
+goods_judged b n (Some i) = arrival_judged b n i
 
 -- 17 or 18, then the rest
-unfoldable pub delivery_judged : Lent → List ℕ → Copies → Found → Verdict
-delivery_judged b key n (At j) = slip_judged b key n j
-delivery_judged b key n Nothing = goods_judged b n (find_line b key)
+unfoldable pub delivery_judged : Lent → List ℕ → Copies → Option ℕ → Verdict
+delivery_judged b key n (Some j) = slip_judged b key n j
+delivery_judged b key n None = goods_judged b n (find_line b key)
 
 -- 16
-unfoldable pub report_judged : Found → Verdict
-report_judged Nothing = Refuse NoLine
-report_judged (At i) = Fits i
+unfoldable pub report_judged : Option ℕ → Verdict
+report_judged None = Err NoLine
+report_judged (Some i) = Ok i
 
 -- what the book says of a record that is fit to book, whose school has a ceiling; only an order is held to it
 unfoldable pub book_judged : Kind → List ℕ → ℕ → Lent → Verdict
 book_judged Order s ceiling b = order_judged b (school_in Order s) (copies_in Order s) ceiling (find_line b (line_key Order s))
 book_judged Goods s ceiling b = delivery_judged b (line_key Goods s) (copies_in Goods s) (find_slip b (slip_key s))
-book_judged Closing s ceiling b = Refuse NothingToBook
+book_judged Closing s ceiling b = Err NothingToBook
 book_judged Report s ceiling b = report_judged (find_line b (line_key Report s))
 
 -- 24, then the book
-unfoldable pub on_roster : Kind → List ℕ → Lent → Standing → Verdict
-on_roster k s b Off = Refuse NotOnRoster
-on_roster k s b (On ceiling) = book_judged k s ceiling b
+unfoldable pub on_roster : Kind → List ℕ → Lent → Option ℕ → Verdict
+on_roster k s b None = Err NotOnRoster
+on_roster k s b (Some ceiling) = book_judged k s ceiling b
 
 -- 13, 11, 12, 24, then the book, of a record of a kind that is read
 unfoldable pub fit_judged : Kind → List ℕ → List ℕ → Lent → Verdict
 fit_judged k s roster b =
-    pick (nothing_to_book k s) (Refuse NothingToBook)
-    (pick (no_copies k s) (Refuse NoCopies)
-    (pick (no_reference k s) (Refuse NoReference)
+    pick (nothing_to_book k s) (Err NothingToBook)
+    (pick (no_copies k s) (Err NoCopies)
+    (pick (no_reference k s) (Err NoReference)
     (on_roster k s b (standing roster (school_in k s)))))
 
 -- the line that a record of a kind makes of the line at i
@@ -276,21 +268,21 @@ entered_as k s b i = outcome (booked_as (done_as (line_after k s b i)) (agreed_a
 
 -- the book stays as it was where a record is refused
 unfoldable pub settled : Kind → List ℕ → Lent → Verdict → Outcome
-settled k s b (Refuse r) = outcome (not_booked r) b
-settled k s b (Fits i) = entered_as k s b i
+settled k s b (Err r) = outcome (not_booked r) b
+settled k s b (Ok i) = entered_as k s b i
 
 -- a record of a kind that is read, booked into a sound book
 unfoldable pub book_as : Kind → List ℕ → List ℕ → Lent → Outcome
 book_as k s roster b = settled k s b (fit_judged k s roster b)
 
-unfoldable pub book_kind : Kinded → List ℕ → List ℕ → Lent → Outcome
-book_kind Unknown s roster b = outcome (not_booked NothingToBook) b
-book_kind (Known k) s roster b = book_as k s roster b
+unfoldable pub book_kind : Option Kind → List ℕ → List ℕ → Lent → Outcome
+book_kind None s roster b = outcome (not_booked NothingToBook) b
+book_kind (Some k) s roster b = book_as k s roster b
 
 -- 1 to 10 first
 unfoldable pub book_read : Reading → List ℕ → List ℕ → Lent → Outcome
-book_read (ReadRefused r) s roster b = outcome (not_booked (Unread r)) b
-book_read (ReadFits n) s roster b = book_kind (kind_of s) s roster b
+book_read (Err r) s roster b = outcome (not_booked (Unread r)) b
+book_read (Ok n) s roster b = book_kind (kind_of s) s roster b
 
 -- a record that meets a roster, booked into a lent book: 20 before all
 unfoldable pub book : List ℕ → List ℕ → Lent → Outcome

@@ -1,8 +1,7 @@
 -- The lent book, when it is sound, and its first entry with a key (RULES 6.3, 6.4).
-use Rattle.std.specs.Prelude.{ℕ, ◌/◌, ◌%◌, Bool, ◌&&◌, List, eqb, leb, length, get_or}
+use Rattle.std.specs.Prelude.{ℕ, ◌/◌, ◌%◌, Bool, ◌&&◌, List, eqb, leb, length, get_or, Option}
 use Rattle.cells.specs.Bytes.{within}
 use Rattle.cells.specs.Search.{first_from, all_from, sum_from}
-use Rattle.cells.specs.declared.search.Found.{Found}
 use Rattle.entry.specs.Stored.{line_width, slip_width, key_is, slip_is, open_at, line_sound, slip_sound}
 
 -- what the caller lends: room for lines, room for slips, and how many of each are used
@@ -49,10 +48,10 @@ sound b =
     && (all_from (line_sound b.lines) (used_lines b) 0 && all_from (slip_sound (used_lines b) b.slips) (used_slips b) 0))
 
 -- the entry with a key: of several the first
-unfoldable pub find_line : Lent → List ℕ → Found
+unfoldable pub find_line : Lent → List ℕ → Option ℕ
 find_line b key = first_from (key_is b.lines key) (used_lines b) 0
 
-unfoldable pub find_slip : Lent → List ℕ → Found
+unfoldable pub find_slip : Lent → List ℕ → Option ℕ
 find_slip b key = first_from (slip_is b.slips key) (used_slips b) 0
 
 -- the open copies of a school: those of all its used lines (RULES 6.6)

@@ -1,3 +1,4 @@
+pub mod Verdicts
 pub mod Lent
 pub mod Booking
 pub mod Asked

@@ -32,12 +32,8 @@ pub enum Refused {
     CeilingPassed,
 }
 
-// A refusal, or the index of the line that is added or changed.
-#[derive(Clone, Copy)]
-pub enum Verdict {
-    Refuse(Refused),
-    Fits(usize),
-}
+// The index of the line that is added or changed, or a refusal.
+pub type Verdict = Result<usize, Refused>;
 
 // What is told of a line: the answer number and place of document 01, its figures, and what its last report said.
 #[repr(C)]

@@ -13,7 +13,7 @@ use entering::{enter_goods, enter_order, enter_report};
 use finding::seek::is_sound;
 use judging::judge::{judge_goods, judge_order, judge_report};
 use reader::judge_record;
-use record::layout::{Kind, Kinded, kind_of};
+use record::layout::{Kind, kind_of};
 use roster::is_roster;
 
 // An order that is read, booked into a sound book.
@@ -28,8 +28,8 @@ fn book_order(
     ensures { outcome result (lent lines.new slips.now used.new) ≡ book_as Kind.Order s.now roster.now (lent lines.old slips.now used.old) }
 {
     match judge_order(s, roster, lines, slips, used) {
-        Verdict::Refuse(r) => not_booked(r),
-        Verdict::Fits(i) => enter_order(s, lines, slips, used, i),
+        Err(r) => not_booked(r),
+        Ok(i) => enter_order(s, lines, slips, used, i),
     }
 }
 
@@ -45,8 +45,8 @@ fn book_goods(
     ensures { outcome result (lent lines.new slips.new used.new) ≡ book_as Kind.Goods s.now roster.now (lent lines.old slips.old used.old) }
 {
     match judge_goods(s, roster, lines, slips, used) {
-        Verdict::Refuse(r) => not_booked(r),
-        Verdict::Fits(i) => enter_goods(s, lines, slips, used, i),
+        Err(r) => not_booked(r),
+        Ok(i) => enter_goods(s, lines, slips, used, i),
     }
 }
 
@@ -56,8 +56,8 @@ fn book_report(s: &[u8], roster: &[u8], lines: &mut [u8], slips: &[u8], used: &[
     ensures { outcome result (lent lines.new slips.now used.now) ≡ book_as Kind.Report s.now roster.now (lent lines.old slips.now used.now) }
 {
     match judge_report(s, roster, lines, slips, used) {
-        Verdict::Refuse(r) => not_booked(r),
-        Verdict::Fits(i) => enter_report(s, lines, slips, used, i),
+        Err(r) => not_booked(r),
+        Ok(i) => enter_report(s, lines, slips, used, i),
     }
 }
 
@@ -86,10 +86,10 @@ pub fn book(
         return not_booked(Refused::Unsound);
     }
     match judge_record(s) {
-        record::answer::Verdict::Refused(r) => not_booked(Refused::Unread(r)),
-        record::answer::Verdict::Fits(_) => match kind_of(s) {
-            Kinded::Unknown => not_booked(Refused::NothingToBook),
-            Kinded::Known(k) => match k {
+        Err(r) => not_booked(Refused::Unread(r)),
+        Ok(_) => match kind_of(s) {
+            None => not_booked(Refused::NothingToBook),
+            Some(k) => match k {
                 Kind::Order => book_order(s, roster, lines, slips, used),
                 Kind::Goods => book_goods(s, roster, lines, slips, used),
                 Kind::Closing => not_booked(Refused::NothingToBook),

@@ -16,13 +16,13 @@ use Rattle.signs.specs.declared.Class.TheVariants.{Zero}
 use Rattle.record.specs.Layout.{kind_width, date_start, layout, total, fixed_width, kind_of}
 use Rattle.record.specs.declared.layout.Kind.{Kind}
 use Rattle.record.specs.declared.layout.Kind.TheVariants.{Goods, Closing}
-use Rattle.record.specs.declared.layout.Kinded.TheVariants.{Known}
+use Rattle.std.specs.Prelude.{Some}
 use Rattle.roundtrip.proofs.Fronts.{date_inside}
 use Rattle.parts.specs.Loops.{tax_place, bundle_mark, is_bundle}
 
-module _ (k : Kind) (fixed : List ℕ) (g : kind_of fixed ≡ Known k) (w : length fixed ≡ fixed_width k) where
+module _ (k : Kind) (fixed : List ℕ) (g : kind_of fixed ≡ Some k) (w : length fixed ≡ fixed_width k) where
   -- a closing record's fixed part is as long as a goods record's
-  either_wide : (b : Bool) → Known (pick b Closing Goods) ≡ Known k → tax_place < length fixed
+  either_wide : (b : Bool) → Some (pick b Closing Goods) ≡ Some k → tax_place < length fixed
   unfolding fixed_width layout total
   either_wide true e = let q : Closing ≡ k = cc in rw (w, ← q) (omega arith)
   either_wide false e = let q : Goods ≡ k = cc in rw (w, ← q) (omega arith)

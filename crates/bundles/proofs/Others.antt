@@ -16,8 +16,8 @@ use Rattle.parts.specs.Loops.{part_id, loop, loop_fields, most_parts, is_member,
 use Rattle.parts.specs.Read.{loops_judged}
 use Rattle.parts.specs.declared.answer.Refusal.{Refusal}
 use Rattle.parts.specs.declared.answer.Refusal.TheVariants.{Broken, TooMany}
-use Rattle.parts.specs.declared.answer.Verdict.{Verdict}
-use Rattle.parts.specs.declared.answer.Verdict.TheVariants.{Refused, Fits}
+use Rattle.parts.specs.Verdicts.{Verdict}
+use Rattle.std.specs.Prelude.{Err, Ok}
 
 -- no more fields stand before the loops than there are
 pub others_most : (fs : List Optional) → others_in fs ≤ length fs
@@ -53,7 +53,7 @@ loops_first (suc n) (f ∷ fs) h e =
     rw (and_left (eqb f.id part_id) (keeps Free [] f.content) first)
 
 -- n whole loops, at least one and at most eight, are judged as n
-pub loops_fit : (n : ℕ) (fs : List Optional) → 1 ≤ n → n ≤ most_parts → length fs ≡ n * loop_fields → are_loops n fs ≡ true → loops_judged fs ≡ Fits n
+pub loops_fit : (n : ℕ) (fs : List Optional) → 1 ≤ n → n ≤ most_parts → length fs ≡ n * loop_fields → are_loops n fs ≡ true → loops_judged fs ≡ Ok n
 unfolding loops_judged whole_loops
 loops_fit n fs some few l e =
     let c : length fs / loop_fields ≡ n = omega (arith, l) in
@@ -69,11 +69,11 @@ pub record Loops (n : ℕ) (fs : List Optional) : Type 0 where
   pub are : are_loops n fs ≡ true
 
 -- a test that refuses where it holds, or where it does not, and does not refuse
-refuses_true : (b : Bool) (r : Refusal) (v : Verdict) (n : ℕ) → pick b (Refused r) v ≡ Fits n → (b ≡ false) × (v ≡ Fits n)
+refuses_true : (b : Bool) (r : Refusal) (v : Verdict) (n : ℕ) → pick b (Err r) v ≡ Ok n → (b ≡ false) × (v ≡ Ok n)
 refuses_true true r v n e = let z : ◌≡◌ {A = ℕ} 0 1 = cc in absurd (omega arith)
 refuses_true false r v n e = (refl, e)
 
-refuses_false : (b : Bool) (v : Verdict) (r : Refusal) (n : ℕ) → pick b v (Refused r) ≡ Fits n → (b ≡ true) × (v ≡ Fits n)
+refuses_false : (b : Bool) (v : Verdict) (r : Refusal) (n : ℕ) → pick b v (Err r) ≡ Ok n → (b ≡ true) × (v ≡ Ok n)
 refuses_false true v r n e = (refl, e)
 refuses_false false v r n e = let z : ◌≡◌ {A = ℕ} 0 1 = cc in absurd (omega arith)
 
@@ -82,13 +82,13 @@ pub not_zero : (n : ℕ) → eqb n 0 ≡ false → 1 ≤ n
 not_zero zero e = absurd (false≢true (sym e))
 not_zero (suc n) e = omega arith
 
-pub fit_loops : (n : ℕ) (fs : List Optional) → loops_judged fs ≡ Fits n → Loops n fs
+pub fit_loops : (n : ℕ) (fs : List Optional) → loops_judged fs ≡ Ok n → Loops n fs
 unfolding loops_judged whole_loops
 fit_loops n fs e =
     let a = refuses_true (eqb (length fs) 0) Broken _ n e in
     let b = refuses_false (eqb (length fs % loop_fields) 0 && are_loops (loop_count fs) fs) _ Broken n a.1 in
     let c = refuses_true (ltb most_parts (loop_count fs)) TooMany _ n b.1 in
-    let q : Fits (loop_count fs) ≡ Fits n = c.1 in
+    let q : Ok (loop_count fs) ≡ Ok n = c.1 in
     let k : loop_count fs ≡ n = cc in
     let r = eqb-true (length fs % loop_fields) 0 (and_left (eqb (length fs % loop_fields) 0) _ b.0) in
     let z = not_zero (length fs) a.0 in

@@ -8,8 +8,8 @@ use lib.ListN.{length}
 use Rattle.cells.specs.Bytes.{pick}
 use Rattle.record.specs.Fields.{Optional}
 use Rattle.record.specs.Read.{judged, optional_fields}
-use Rattle.record.specs.declared.answer.Verdict.{Verdict as Judged}
-use Rattle.record.specs.declared.answer.Verdict.TheVariants.{Refused as NoRecord, Fits as Holds}
+use Rattle.record.specs.Verdicts.{Verdict as Judged}
+use Rattle.std.specs.Prelude.{Err, Ok}
 use Rattle.writing.specs.Write.{Outcome, outcome}
 use Rattle.writing.specs.declared.answer.Written.{Written}
 use Rattle.roundtrip.proofs.Promises.{refusal_keeps}
@@ -20,8 +20,7 @@ use Rattle.parts.specs.Answers.{read_of}
 use Rattle.parts.specs.Read.{parts_judged, Outcome as Read, outcome as told, room_after, bundle_read, read_parts}
 use Rattle.parts.specs.Write.{table_with, contents_with, write_with, parts_refused, written_with, write_parts}
 use Rattle.parts.specs.declared.answer.Refusal.TheVariants.{SmallRoom}
-use Rattle.parts.specs.declared.answer.Verdict.{Verdict}
-use Rattle.parts.specs.declared.answer.Verdict.TheVariants.{Refused, Fits}
+use Rattle.parts.specs.Verdicts.{Verdict}
 use Rattle.parts.specs.declared.answer.PartsRead.{PartsRead}
 
 -- the answer, place and number of parts, and the room at exit, are fixed by what is lent
@@ -43,20 +42,20 @@ write_parts_unique fixed table count contents parts n out said said' exit exit' 
 -- a verdict that is not answered 0 leaves a room as it was
 verdict_keeps : (v : Verdict) (fs : List Optional) (room : List ℕ) → ((read_of v).answer ≡ 0 → ⊥) → room_after v fs room ≡ room
 unfolding read_of room_after
-verdict_keeps (Refused r) fs room h = refl
-verdict_keeps (Fits n) fs room h = absurd (h refl)
+verdict_keeps (Err r) fs room h = refl
+verdict_keeps (Ok n) fs room h = absurd (h refl)
 
 record_keeps : (v : Judged) (s room : List ℕ) → ((bundle_read v s room).said.answer ≡ 0 → ⊥) → (bundle_read v s room).room ≡ room
 unfolding bundle_read
-record_keeps (NoRecord r) s room h = refl
-record_keeps (Holds n) s room h = verdict_keeps (parts_judged (is_bundle s) (optional_fields n s)) (optional_fields n s) room h
+record_keeps (Err r) s room h = refl
+record_keeps (Ok n) s room h = verdict_keeps (parts_judged (is_bundle s) (optional_fields n s)) (optional_fields n s) room h
 
 -- reading parts that does not answer 0 leaves the room as it was
 pub parts_refusal_keeps : (s room : List ℕ) → ((read_parts s room).said.answer ≡ 0 → ⊥) → (read_parts s room).room ≡ room
 unfolding read_parts
 parts_refusal_keeps s room = go (ltb (length room) (most_parts * part_width))
   where
-    go : (b : Bool) → let o = pick b (told (read_of (Refused SmallRoom)) room) (bundle_read (judged s) s room) in (o.said.answer ≡ 0 → ⊥) → o.room ≡ room
+    go : (b : Bool) → let o = pick b (told (read_of (Err SmallRoom)) room) (bundle_read (judged s) s room) in (o.said.answer ≡ 0 → ⊥) → o.room ≡ room
     go true h = refl
     go false h = record_keeps (judged s) s room h
 
@@ -65,8 +64,8 @@ written_keeps : (v : Verdict) (fixed table : List ℕ) (count : ℕ) (contents p
     → ((written_with v fixed table count contents parts out).said.answer ≡ 0 → ⊥)
     → (written_with v fixed table count contents parts out).out ≡ out
 unfolding written_with write_with
-written_keeps (Refused r) fixed table count contents parts out h = refl
-written_keeps (Fits n) fixed table count contents parts out h =
+written_keeps (Err r) fixed table count contents parts out h = refl
+written_keeps (Ok n) fixed table count contents parts out h =
     refusal_keeps fixed (table_with (lent_fields n parts 0) table count) (count + length (lent_fields n parts 0)) (contents_with (lent_fields n parts 0) contents) out h
 
 pub write_parts_refusal_keeps : (fixed table : List ℕ) (count : ℕ) (contents parts : List ℕ) (n : ℕ) (out : List ℕ)

@@ -29,7 +29,7 @@ use Rattle.parts.specs.Fields.{lent_fields}
 use Rattle.parts.specs.Entries.{others_among}
 use Rattle.parts.specs.Read.{parts_judged, Outcome as Read, room_after, parts_read}
 use Rattle.parts.specs.Write.{entries_there, has_loop, is_misplaced}
-use Rattle.parts.specs.declared.answer.Verdict.TheVariants.{Fits}
+use Rattle.std.specs.Prelude.{Ok}
 use Rattle.parts.proofs.Members.{others_named}
 use Rattle.parts.proofs.Lent.{lent_long}
 use Rattle.bundles.specs.Demand2.{parts_call, write_parts_call, LargeRoom, Bundled, CanWriteParts, PartsReadBack}
@@ -134,14 +134,14 @@ module _ (fixed table : List ℕ) (count : ℕ) (contents parts : List ℕ) (n :
   found : optional_fields (length fields) text ≡ fields
   found = whole_fields kind fixed fields whole
 
-  judged_so : parts_judged (is_bundle text) (optional_fields (length fields) text) ≡ Fits n
+  judged_so : parts_judged (is_bundle text) (optional_fields (length fields) text) ≡ Ok n
   judged_so =
       split (is_bundle fixed)
       (λ b. bundle_judged text (length fields) n (same_bundle ∙ b) (subst (λ (fs : List Optional). Bundled fs n) (sym found) (parted b)))
       (λ b. none_judged text (length fields) n (same_bundle ∙ b) (no_parts b))
 
   module _ (room : List ℕ) (h : LargeRoom room) where
-    reads_so : parts_call text room ≡ parts_read (Fits n) (optional_fields (length fields) text) room
+    reads_so : parts_call text room ≡ parts_read (Ok n) (optional_fields (length fields) text) room
     reads_so = read_fits text room h (length fields) (whole_fits kind fixed fields whole) n judged_so
 
     -- the parts that stand in the room are those that were given

@@ -12,8 +12,8 @@ use Rattle.cells.proofs.Bools.{split}
 use Rattle.record.specs.Answers.{checked_of}
 use Rattle.record.specs.Fields.{Optional}
 use Rattle.record.specs.Read.{judged, optional_fields}
-use Rattle.record.specs.declared.answer.Verdict.{Verdict as Judged}
-use Rattle.record.specs.declared.answer.Verdict.TheVariants.{Refused as NoRecord, Fits as Holds}
+use Rattle.record.specs.Verdicts.{Verdict as Judged}
+use Rattle.std.specs.Prelude.{Err, Ok}
 use Rattle.writing.specs.Write.{entries, optional_of}
 use Rattle.roundtrip.specs.Record.{IsRecord}
 use Rattle.roundtrip.specs.Demand2.{read_call, Tabled}
@@ -26,8 +26,7 @@ use Rattle.parts.specs.Answers.{refusal_number as partsNumber, read_of}
 use Rattle.parts.specs.Read.{parts_judged, Outcome, parts_read, bundle_read, read_parts}
 use Rattle.parts.specs.declared.answer.Refusal.{Refusal}
 use Rattle.parts.specs.declared.answer.Refusal.TheVariants.{SmallRoom, Broken, TooMany}
-use Rattle.parts.specs.declared.answer.Verdict.{Verdict}
-use Rattle.parts.specs.declared.answer.Verdict.TheVariants.{Refused, Fits}
+use Rattle.parts.specs.Verdicts.{Verdict}
 use Rattle.bundles.specs.Demand2.{parts_call, LargeRoom, Bundled, Parted, PartsReadExactly}
 use Rattle.bundles.proofs.Others.{others_most, others_front, others_append, loops_first, loops_fit, Loops, fit_loops}
 
@@ -39,13 +38,13 @@ never_done Broken e = omega arith
 never_done TooMany e = omega arith
 
 -- what reading the parts of a record that fits says, with a large room
-pub read_fits : (s room : List ℕ) → LargeRoom room → (count : ℕ) → judged s ≡ Holds count → (n : ℕ) → parts_judged (is_bundle s) (optional_fields count s) ≡ Fits n
-    → read_parts s room ≡ parts_read (Fits n) (optional_fields count s) room
+pub read_fits : (s room : List ℕ) → LargeRoom room → (count : ℕ) → judged s ≡ Ok count → (n : ℕ) → parts_judged (is_bundle s) (optional_fields count s) ≡ Ok n
+    → read_parts s room ≡ parts_read (Ok n) (optional_fields count s) room
 unfolding read_parts bundle_read
 read_fits s room h count e n p = rw (le-ltb (length room) (most_parts * part_width) h, e, p)
 
 -- the number of parts that is said
-number : (n : ℕ) → (read_of (Fits n)).parts ≡ n
+number : (n : ℕ) → (read_of (Ok n)).parts ≡ n
 unfolding read_of
 number n = refl
 
@@ -53,10 +52,10 @@ number n = refl
 pub record Done (s room : List ℕ) : Type 0 where
   pub large : LargeRoom room
   pub count : ℕ
-  pub fits : judged s ≡ Holds count
+  pub fits : judged s ≡ Ok count
   pub n : ℕ
-  pub parts : parts_judged (is_bundle s) (optional_fields count s) ≡ Fits n
-  pub says : read_parts s room ≡ parts_read (Fits n) (optional_fields count s) room
+  pub parts : parts_judged (is_bundle s) (optional_fields count s) ≡ Ok n
+  pub says : read_parts s room ≡ parts_read (Ok n) (optional_fields count s) room
 
 module _ (s room : List ℕ) (e : (read_parts s room).said.answer ≡ 0) where
   large : LargeRoom room
@@ -69,15 +68,15 @@ module _ (s room : List ℕ) (e : (read_parts s room).said.answer ≡ 0) where
   unfolding read_parts
   rest = rw (le-ltb (length room) (most_parts * part_width) large) at e
 
-  fits : (v : Judged) → (bundle_read v s room).said.answer ≡ 0 → (count : ℕ) × (v ≡ Holds count)
+  fits : (v : Judged) → (bundle_read v s room).said.answer ≡ 0 → (count : ℕ) × (v ≡ Ok count)
   unfolding bundle_read checked_of
-  fits (NoRecord r) q = verdict_fits (NoRecord r) q
-  fits (Holds count) q = (count, refl)
+  fits (Err r) q = verdict_fits (Err r) q
+  fits (Ok count) q = (count, refl)
 
-  parted : (v : Verdict) → (read_of v).answer ≡ 0 → (n : ℕ) × (v ≡ Fits n)
+  parted : (v : Verdict) → (read_of v).answer ≡ 0 → (n : ℕ) × (v ≡ Ok n)
   unfolding read_of
-  parted (Refused r) q = absurd (never_done r q)
-  parted (Fits n) q = (n, refl)
+  parted (Err r) q = absurd (never_done r q)
+  parted (Ok n) q = (n, refl)
 
   pub done : Done s room
   unfolding bundle_read
@@ -97,17 +96,17 @@ module _ (s : List ℕ) (count : ℕ) where
   count_is = fields_count count _
 
   -- what is judged as n parts
-  pub judged_bundle : (n : ℕ) → parts_judged (is_bundle s) fields ≡ Fits n → is_bundle s ≡ true → Loops n (loops_of fields)
+  pub judged_bundle : (n : ℕ) → parts_judged (is_bundle s) fields ≡ Ok n → is_bundle s ≡ true → Loops n (loops_of fields)
   unfolding parts_judged
   judged_bundle n p b = fit_loops n (loops_of fields) (rw b at p)
 
-  pub judged_none : (n : ℕ) → parts_judged (is_bundle s) fields ≡ Fits n → is_bundle s ≡ false → n ≡ 0
+  pub judged_none : (n : ℕ) → parts_judged (is_bundle s) fields ≡ Ok n → is_bundle s ≡ false → n ≡ 0
   unfolding parts_judged
   judged_none n p b =
-      let q : Fits 0 ≡ Fits n = rw b at p in
+      let q : Ok 0 ≡ Ok n = rw b at p in
       cc
 
-  pub none_judged : (n : ℕ) → is_bundle s ≡ false → n ≡ 0 → parts_judged (is_bundle s) fields ≡ Fits n
+  pub none_judged : (n : ℕ) → is_bundle s ≡ false → n ≡ 0 → parts_judged (is_bundle s) fields ≡ Ok n
   unfolding parts_judged
   none_judged n b e = rw (b, e)
 
@@ -126,7 +125,7 @@ module _ (s : List ℕ) (count : ℕ) where
   }
 
   -- and a bundle of n parts is judged as them
-  pub bundle_judged : (n : ℕ) → is_bundle s ≡ true → Bundled fields n → parts_judged (is_bundle s) fields ≡ Fits n
+  pub bundle_judged : (n : ℕ) → is_bundle s ≡ true → Bundled fields n → parts_judged (is_bundle s) fields ≡ Ok n
   unfolding parts_judged loops_of
   bundle_judged n b w =
       let o : others_in fields ≡ length w.others =
@@ -135,11 +134,11 @@ module _ (s : List ℕ) (count : ℕ) where
       rw (b, d) (loops_fit n w.loops w.some w.few w.so_many w.loops_stand)
 
 -- a check of a record that fits finds its fields
-pub fits_tabled : (s : List ℕ) (count : ℕ) → judged s ≡ Holds count → Tabled s (optional_fields count s)
+pub fits_tabled : (s : List ℕ) (count : ℕ) → judged s ≡ Ok count → Tabled s (optional_fields count s)
 fits_tabled s count e =
     let c = count_is s count in
     record {
-      reads = λ lent h. fits_said s lent h count e ∙ ap (λ (k : ℕ). checked_of (Holds k)) (sym c);
+      reads = λ lent h. fits_said s lent h count e ∙ ap (λ (k : ℕ). checked_of (Ok k)) (sym c);
       fields_are_same = λ lent h. ap (λ (k : ℕ). optional_of s (entries k (read_call s lent).table)) c ∙ fits_table s lent h count e;
     }
 
@@ -161,9 +160,9 @@ parts_read_exactly s room = record { only_records = only; all_records = all }
           }),
         )
 
-    all : LargeRoom room → (n : ℕ) → IsRecord s → Parted s n → (parts_call s room).said ≡ read_of (Fits n)
+    all : LargeRoom room → (n : ℕ) → IsRecord s → Parted s n → (parts_call s room).said ≡ read_of (Ok n)
     all h n r p =
-        let f = tabled_fits s (optional_fields p.count s) p.fields_are_same ∙ ap Holds (count_is s p.count) in
-        let j : parts_judged (is_bundle s) (optional_fields p.count s) ≡ Fits n =
+        let f = tabled_fits s (optional_fields p.count s) p.fields_are_same ∙ ap Ok (count_is s p.count) in
+        let j : parts_judged (is_bundle s) (optional_fields p.count s) ≡ Ok n =
         split (is_bundle s) (λ b. bundle_judged s p.count n b (p.bundle b)) (λ b. none_judged s p.count n b (p.no_bundle b)) in
         ap (λ (o : Outcome). o.said) (read_fits s room h p.count f n j)

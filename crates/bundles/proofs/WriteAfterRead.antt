@@ -15,7 +15,7 @@ use Rattle.record.specs.Fields.{Optional}
 use Rattle.record.specs.Read.{entry_width, optional_fields}
 use Rattle.record.specs.declared.answer.Checked.{Checked}
 use Rattle.record.specs.declared.layout.Kind.{Kind}
-use Rattle.record.specs.declared.layout.Kinded.TheVariants.{Known}
+use Rattle.std.specs.Prelude.{Some}
 use Rattle.writing.specs.Write.{Outcome, outcome, entries, optional_of, record_text}
 use Rattle.writing.specs.Widths.{all_inside}
 use Rattle.writing.proofs.Halves.{fields_take, inside_take}
@@ -42,7 +42,7 @@ use Rattle.bundles.proofs.WriteDone.{can_done}
 use Rattle.bundles.proofs.ReadAfterWrite.{whole_sound, begun_not}
 
 -- a record of a kind that was checked with a table, and n parts of which were read into a room
-module _ (k : Kind) (s table room out : List ℕ) (g : kind_of s ≡ Known k) (a : (read_call s table).said.answer ≡ 0) (d : Done s room) (long : length s ≤ length out) where
+module _ (k : Kind) (s table room out : List ℕ) (g : kind_of s ≡ Some k) (a : (read_call s table).said.answer ≡ 0) (d : Done s room) (long : length s ≤ length out) where
   abbrev fixed : List ℕ
   fixed = take (fixed_width k) s
 
@@ -175,7 +175,7 @@ module _ (k : Kind) (s table room out : List ℕ) (g : kind_of s ≡ Known k) (a
   pub record_back : Back
   record_back = split (is_bundle s) bundle_back none_back
 
-pub parts_write_after_read : (k : Kind) (s table room out : List ℕ) → kind_of s ≡ Known k → (read_call s table).said.answer ≡ 0
+pub parts_write_after_read : (k : Kind) (s table room out : List ℕ) → kind_of s ≡ Some k → (read_call s table).said.answer ≡ 0
     → (parts_call s room).said.answer ≡ 0 → length s ≤ length out
     → PartsWrittenBack (take (fixed_width k) s) (read_call s table).table (read_call s table).said.fields s (parts_call s room).room (parts_call s room).said.parts out
 unfolding read_of room_after

@@ -1,10 +1,9 @@
 -- Demand 2 for parts, the statements: exactly the bundles that RULES 2.5 lays down are read into parts and written from them; parts read after writing are the same parts, and a record written from what was read of it is the same bytes.
-use Rattle.std.specs.Prelude.{ℕ, ◌-◌, ◌*◌, ◌≤◌, ◌≡◌, true, false, List, ◌++◌, length, take, drop}
+use Rattle.std.specs.Prelude.{ℕ, ◌-◌, ◌*◌, ◌≤◌, ◌≡◌, true, false, List, ◌++◌, length, take, drop, Ok, Some}
 use Rattle.record.specs.Layout.{fixed_width, kind_of}
 use Rattle.record.specs.Fields.{Optional}
 use Rattle.record.specs.Read.{entry_width, optional_fields}
 use Rattle.record.specs.declared.layout.Kind.{Kind}
-use Rattle.record.specs.declared.layout.Kinded.TheVariants.{Known}
 use Rattle.writing.specs.Write.{Outcome, outcome, entries, optional_of, record_text}
 use Rattle.writing.specs.Widths.{all_inside}
 use Rattle.roundtrip.specs.Record.{IsRecord, Makes}
@@ -15,7 +14,6 @@ use Rattle.parts.specs.Fields.{lent_fields}
 use Rattle.parts.specs.Answers.{read_of}
 use Rattle.parts.specs.Read.{Outcome as Read, read_parts}
 use Rattle.parts.specs.Write.{is_misplaced, write_parts}
-use Rattle.parts.specs.declared.answer.Verdict.TheVariants.{Fits}
 use Rattle.parts.specs.declared.part.Part.{Part}
 
 -- the two calls that the demand speaks of, as their contracts fix them: `unpacking::read_parts` and `packing::write_parts`
@@ -50,11 +48,11 @@ pub record Parted (s : List ℕ) (n : ℕ) : Type 0 where
 -- READ EXACTLY: reading parts answers 0 for the texts of records that are no bundle or a bundle as it should be, where the room is large, with the number of their parts, and for nothing else
 pub record PartsReadExactly (s room : List ℕ) : Type 0 where
   pub only_records : (parts_call s room).said.answer ≡ 0 → LargeRoom room × IsRecord s × Parted s (parts_call s room).said.parts
-  pub all_records : LargeRoom room → (n : ℕ) → IsRecord s → Parted s n → (parts_call s room).said ≡ read_of (Fits n)
+  pub all_records : LargeRoom room → (n : ℕ) → IsRecord s → Parted s n → (parts_call s room).said ≡ read_of (Ok n)
 
 -- reading the parts of a text with any large room is done, and these are the parts that then stand in the room
 pub record PartsBack (text : List ℕ) (n : ℕ) (ps : List Part) : Type 0 where
-  pub reads : (room : List ℕ) → LargeRoom room → (parts_call text room).said ≡ read_of (Fits n)
+  pub reads : (room : List ℕ) → LargeRoom room → (parts_call text room).said ≡ read_of (Ok n)
   pub same_parts : (room : List ℕ) → LargeRoom room → lent_parts n (parts_call text room).room 0 ≡ ps
 
 -- what writing with parts needs: no more parts than may be, in the room, where they belong and with the qualifiers that a loop asks for; and with their fields behind those of the table a record that the output has room for
@@ -102,6 +100,6 @@ pub record PartsDemand2 : Type 0 where
       → (write_parts_call fixed table count contents parts n out).said.answer ≡ 0
       → PartsReadBack fixed table count contents parts n (written (write_parts_call fixed table count contents parts n out))
   -- write after read gives the bytes
-  pub write_after_read : (k : Kind) (s table room out : List ℕ) → kind_of s ≡ Known k → (read_call s table).said.answer ≡ 0
+  pub write_after_read : (k : Kind) (s table room out : List ℕ) → kind_of s ≡ Some k → (read_call s table).said.answer ≡ 0
       → (parts_call s room).said.answer ≡ 0 → length s ≤ length out
       → PartsWrittenBack (take (fixed_width k) s) (read_call s table).table (read_call s table).said.fields s (parts_call s room).room (parts_call s room).said.parts out

@@ -8,7 +8,7 @@ use lib.ListN.{length, take}
 use borrow.Author.Tests.{ltb-true, ltb-false, lt-ltb}
 use Rattle.cells.proofs.Bools.{split}
 use Rattle.record.specs.Read.{judged}
-use Rattle.record.specs.declared.answer.Verdict.TheVariants.{Refused}
+use Rattle.std.specs.Prelude.{Err}
 use Rattle.record.specs.declared.answer.Refusal.TheVariants.{TooLong}
 use Rattle.book.specs.Lent.{Lent}
 use Rattle.book.specs.Booking.{book, book_read}
@@ -19,7 +19,7 @@ use Rattle.own.proofs.Own.{own_sound}
 use Rattle.desk.specs.Printed.{kind_letter, book_each}
 
 -- an over-long record is refused as such, whatever it holds
-long_judged : (s : List ℕ) → 1024 < length s → judged s ≡ Refused TooLong
+long_judged : (s : List ℕ) → 1024 < length s → judged s ≡ Err TooLong
 unfolding judged
 long_judged s h = rw (lt-ltb 1024 (length s) h)
 

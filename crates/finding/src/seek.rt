@@ -8,7 +8,6 @@ ghost use Rattle.book.specs.Asked.{key_widths, are_wide};
 
 use crate::keyed::key_is;
 use cells::little::word8;
-use cells::search::Found;
 use entry::key::{KEY_FIELDS, REFERENCE_FIELD, REFERENCE_TELLS, SCHOOL_FIELD, SCHOOL_TELLS};
 use stored::{
     KEY_TELLS, LINE_WIDTH, SLIP_KEY_TELLS, SLIP_WIDTH, is_line_sound, open_at, slip_is, slip_line,
@@ -19,7 +18,7 @@ pub const MOST_LINES: usize = 512;
 pub const MOST_SLIPS: usize = 1024;
 
 // The first of the used lines with a key. Reference and school, which tell most keys apart, are looked at by eight bytes each; the whole key is compared only where both are there.
-pub fn find_line(lines: &[u8], count: usize, key: [&[u8]; KEY_FIELDS]) -> Found
+pub fn find_line(lines: &[u8], count: usize, key: [&[u8]; KEY_FIELDS]) -> Option<usize>
     requires { (line_width * count ≤ length lines.now) × (are_wide key_widths (map (λ x. x.now) key) ≡ true) }
     ensures { result ≡ first_from (key_is lines.now (joined (map (λ x. x.now) key.entry))) count 0 }
 {
@@ -36,14 +35,14 @@ pub fn find_line(lines: &[u8], count: usize, key: [&[u8]; KEY_FIELDS]) -> Found
             continue;
         }
         if key_is(lines, line, key) {
-            return Found::At(line);
+            return Some(line);
         }
     }
-    Found::Nothing
+    None
 }
 
 // The first of the used slips with a key: the end of the slip number and the position are looked at first.
-pub fn find_slip(slips: &[u8], count: usize, key: &[u8]) -> Found
+pub fn find_slip(slips: &[u8], count: usize, key: &[u8]) -> Option<usize>
     requires { (slip_width * count ≤ length slips.now) × (length key.now ≡ slip_key_width) }
     ensures { result ≡ first_from (slip_is slips.now key.now) count 0 }
 {
@@ -56,10 +55,10 @@ pub fn find_slip(slips: &[u8], count: usize, key: &[u8]) -> Found
             continue;
         }
         if slip_is(slips, slip, key) {
-            return Found::At(slip);
+            return Some(slip);
         }
     }
-    Found::Nothing
+    None
 }
 
 // The open copies of a school on all used lines.

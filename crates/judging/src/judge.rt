@@ -7,7 +7,6 @@ ghost use Rattle.book.specs.Booking.{school_in, line_key, slip_key, copies_in, o
 
 use book::answer::{Refused, Verdict};
 use cells::part;
-use cells::search::Found;
 use finding::seek::{find_line, find_slip};
 use naming::{goods_key, order_key, report_key, slip_key};
 use placing::{judge_arrival, judge_room, judge_slip};
@@ -16,7 +15,7 @@ use record::places::{
     ARTICLE, ORDER_ARTICLE, ORDER_MEASURE, ORDER_QUANTITY, ORDER_REFERENCE, PARTIES_END, POSITION,
     PRICE, QUANTITY, RECIPIENT, REFERENCE, REPORT_ARTICLE, REPORT_REFERENCE, SENDER, SLIP,
 };
-use roster::{Standing, standing_on};
+use roster::{standing_on};
 use rules::amount::{Copies, copies_of};
 use signs::{Class, all_of};
 
@@ -34,8 +33,8 @@ fn judge_new_line(
 {
     let key = order_key(s);
     match find_line(lines, used[0], key) {
-        Found::At(_) => Verdict::Refuse(Refused::LineExists),
-        Found::Nothing => judge_room(
+        Some(_) => Err(Refused::LineExists),
+        None => judge_room(
             part(s, SENDER, RECIPIENT),
             copies,
             ceiling,
@@ -59,14 +58,14 @@ pub fn judge_order(
 {
     let copies = copies_of(part(s, ORDER_QUANTITY, ORDER_MEASURE));
     if copies.0 == 0 {
-        return Verdict::Refuse(Refused::NoCopies);
+        return Err(Refused::NoCopies);
     }
     if all_of(Class::Blank, part(s, ORDER_REFERENCE, ORDER_ARTICLE)) {
-        return Verdict::Refuse(Refused::NoReference);
+        return Err(Refused::NoReference);
     }
     match standing_on(roster, part(s, SENDER, RECIPIENT)) {
-        Standing::Off => Verdict::Refuse(Refused::NotOnRoster),
-        Standing::On(ceiling) => judge_new_line(s, copies, ceiling, lines, slips, used),
+        None => Err(Refused::NotOnRoster),
+        Some(ceiling) => judge_new_line(s, copies, ceiling, lines, slips, used),
     }
 }
 
@@ -83,10 +82,10 @@ fn judge_delivery(
 {
     let key = goods_key(s);
     match find_slip(slips, used[1], slip_key(s)) {
-        Found::At(j) => judge_slip(key, copies, lines, slips, used, j),
-        Found::Nothing => match find_line(lines, used[0], key) {
-            Found::Nothing => Verdict::Refuse(Refused::NoLine),
-            Found::At(i) => judge_arrival(copies, lines, slips, used, i),
+        Some(j) => judge_slip(key, copies, lines, slips, used, j),
+        None => match find_line(lines, used[0], key) {
+            None => Err(Refused::NoLine),
+            Some(i) => judge_arrival(copies, lines, slips, used, i),
         },
     }
 }
@@ -103,18 +102,18 @@ pub fn judge_goods(
     ensures { result ≡ fit_judged Kind.Goods s.now roster.now (lent lines.now slips.now used.now) }
 {
     if all_of(Class::Blank, part(s, SLIP, POSITION)) {
-        return Verdict::Refuse(Refused::NothingToBook);
+        return Err(Refused::NothingToBook);
     }
     let copies = copies_of(part(s, QUANTITY, PRICE));
     if copies.0 == 0 {
-        return Verdict::Refuse(Refused::NoCopies);
+        return Err(Refused::NoCopies);
     }
     if all_of(Class::Blank, part(s, REFERENCE, ARTICLE)) {
-        return Verdict::Refuse(Refused::NoReference);
+        return Err(Refused::NoReference);
     }
     match standing_on(roster, part(s, RECIPIENT, PARTIES_END)) {
-        Standing::Off => Verdict::Refuse(Refused::NotOnRoster),
-        Standing::On(_) => judge_delivery(s, copies, lines, slips, used),
+        None => Err(Refused::NotOnRoster),
+        Some(_) => judge_delivery(s, copies, lines, slips, used),
     }
 }
 
@@ -125,8 +124,8 @@ fn judge_mark(s: &[u8], lines: &[u8], slips: &[u8], used: &[usize; 2]) -> Verdic
 {
     let key = report_key(s);
     match find_line(lines, used[0], key) {
-        Found::Nothing => Verdict::Refuse(Refused::NoLine),
-        Found::At(i) => Verdict::Fits(i),
+        None => Err(Refused::NoLine),
+        Some(i) => Ok(i),
     }
 }
 
@@ -142,10 +141,10 @@ pub fn judge_report(
     ensures { result ≡ fit_judged Kind.Report s.now roster.now (lent lines.now slips.now used.now) }
 {
     if all_of(Class::Blank, part(s, REPORT_REFERENCE, REPORT_ARTICLE)) {
-        return Verdict::Refuse(Refused::NoReference);
+        return Err(Refused::NoReference);
     }
     match standing_on(roster, part(s, RECIPIENT, PARTIES_END)) {
-        Standing::Off => Verdict::Refuse(Refused::NotOnRoster),
-        Standing::On(_) => judge_mark(s, lines, slips, used),
+        None => Err(Refused::NotOnRoster),
+        Some(_) => judge_mark(s, lines, slips, used),
     }
 }

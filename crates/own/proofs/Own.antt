@@ -10,13 +10,11 @@ use lib.ListN.{length, take, drop, length-append, length-take, length-drop, take
 use Rattle.cells.specs.Bytes.{pick}
 use Rattle.cells.specs.Little.{le_bytes}
 use Rattle.cells.specs.Search.{first_from}
-use Rattle.cells.specs.declared.search.Found.{Found}
-use Rattle.cells.specs.declared.search.Found.TheVariants.{At, Nothing}
+use Rattle.std.specs.Prelude.{Err, None, Ok, Option, Some}
 use Rattle.cells.proofs.Bools.{split}
 use Rattle.cells.proofs.Lists.{same_refl}
 use Rattle.roster.specs.Roster.{entry_width, account_width, ceiling_width, highest_ceiling, entries, roster_sound, standing}
 use Rattle.roster.specs.Schools.{is_of, is_account, find_school, ceiling_of, standing_among, standing_of, bytes_of_one, bytes_of}
-use Rattle.roster.specs.declared.Standing.TheVariants.{On}
 use Rattle.roster.specs.declared.schools.School.{School}
 use Rattle.roster.proofs.Agree.{standing_same}
 use Rattle.rules.specs.declared.amount.Copies.{Copies}
@@ -25,31 +23,27 @@ use Rattle.record.specs.Answers.{refusal_number}
 use Rattle.record.specs.Read.{judged}
 use Rattle.record.specs.declared.answer.Refusal.{Refusal}
 use Rattle.record.specs.declared.answer.Refusal.TheVariants.{TooLong, UnknownKind, TooShort, Byte, FixedField, NoField, LastField, TooManyFields, Content, Group, SmallTable}
-use Rattle.record.specs.declared.answer.Verdict.{Verdict as Reading}
-use Rattle.record.specs.declared.answer.Verdict.TheVariants.{Refused as ReadRefused, Fits as ReadFits}
+use Rattle.record.specs.Verdicts.{Verdict as Reading}
 use Rattle.record.specs.declared.layout.Kind.{Kind}
 use Rattle.record.specs.declared.layout.Kind.TheVariants.{Order, Goods, Closing, Report}
-use Rattle.record.specs.declared.layout.Kinded.{Kinded}
-use Rattle.record.specs.declared.layout.Kinded.TheVariants.{Known, Unknown}
 use Rattle.reader.proofs.Fitting.{Fitting, fitting}
 use Rattle.entry.specs.Stored.{most_arrived, line_at, key_is, slip_line_at, slip_copies_at}
 use Rattle.book.specs.Lent.{Lent, used_lines, used_slips, line_room, slip_room, sound, find_line, find_slip, open_copies}
 use Rattle.book.specs.Booking.{refused_number, line_key, slip_key, school_in, copies_in, nothing_to_book, no_copies, no_reference, new_line_judged, order_judged, slip_judged, arrival_judged, goods_judged, delivery_judged, report_judged, book_judged, on_roster, fit_judged, refused_as, done_as, entered_as, settled, book_as, book_kind, book_read, book}
-use Rattle.book.specs.declared.answer.Verdict.{Verdict}
-use Rattle.book.specs.declared.answer.Verdict.TheVariants.{Refuse, Fits}
+use Rattle.book.specs.Verdicts.{Verdict}
 use Rattle.book.proofs.Fields.{order_copies}
 use Rattle.book.proofs.Opens.{open_below}
 use Rattle.naming.proofs.Named.{order_school_is, goods_school_is, report_school_is}
 use Rattle.own.specs.Own.{parties_end, account_by, own_entry, own_roster, book_own, NeverInTheWay}
 
 -- the account of a record that has its two parties has its length, so the roster that it meets has the right size
-pub account_wide : (s : List ℕ) (k : Kinded) → parties_end ≤ length s → length (account_by k s) ≡ account_width
+pub account_wide : (s : List ℕ) (k : Option Kind) → parties_end ≤ length s → length (account_by k s) ≡ account_width
 unfolding account_by
-account_wide s (Known Order) h = rw (length-drop, length-take) (omega arith)
-account_wide s (Known Goods) h = rw (length-drop, length-take) (omega arith)
-account_wide s (Known Closing) h = rw (length-drop, length-take) (omega arith)
-account_wide s (Known Report) h = rw (length-drop, length-take) (omega arith)
-account_wide s Unknown h = rw (length-drop, length-take) (omega arith)
+account_wide s (Some Order) h = rw (length-drop, length-take) (omega arith)
+account_wide s (Some Goods) h = rw (length-drop, length-take) (omega arith)
+account_wide s (Some Closing) h = rw (length-drop, length-take) (omega arith)
+account_wide s (Some Report) h = rw (length-drop, length-take) (omega arith)
+account_wide s None h = rw (length-drop, length-take) (omega arith)
 
 entry_wide : (s : List ℕ) → parties_end ≤ length s → length (own_entry s) ≡ entry_width
 unfolding own_entry le_bytes
@@ -72,7 +66,7 @@ own_sound s =
     (λ e. rw (e, entry_wide s (ltb-false (length s) parties_end e)) refl)
 
 -- an account stands on a roster of its own entry alone, with the ceiling there
-alone_stands : (account : List ℕ) (ceiling : ℕ) → length account ≡ account_width → ceiling < 2 ^ 32 → standing (account ++ le_bytes ceiling_width ceiling) account ≡ On ceiling
+alone_stands : (account : List ℕ) (ceiling : ℕ) → length account ≡ account_width → ceiling < 2 ^ 32 → standing (account ++ le_bytes ceiling_width ceiling) account ≡ Some ceiling
 unfolding bytes_of bytes_of_one standing_of standing_among find_school first_from is_account is_of ceiling_of
 alone_stands account ceiling w c =
     let address : List ℕ = take 10 account in
@@ -84,10 +78,10 @@ alone_stands account ceiling w c =
     rw (append-nil, take-append-drop 10 account) at so ∙ rw (same_refl address, same_refl qualifier) refl
 
 -- a record whose school is its own account finds it on its roster, under the highest ceiling
-own_stands : (s : List ℕ) (k : Kind) → kind_of s ≡ Known k → parties_end ≤ length s → school_in k s ≡ account_by (Known k) s → standing (own_roster s) (school_in k s) ≡ On highest_ceiling
+own_stands : (s : List ℕ) (k : Kind) → kind_of s ≡ Some k → parties_end ≤ length s → school_in k s ≡ account_by (Some k) s → standing (own_roster s) (school_in k s) ≡ Some highest_ceiling
 unfolding own_entry
 own_stands s k g h e =
-    rw (own_some s h, g, e) (alone_stands (account_by (Known k) s) highest_ceiling (account_wide s (Known k) h) (omega arith))
+    rw (own_some s h, g, e) (alone_stands (account_by (Some k) s) highest_ceiling (account_wide s (Some k) h) (omega arith))
 
 -- the number of a refusal of reading is below 24
 read_below : (r : Refusal) → refusal_number r < 24
@@ -106,8 +100,8 @@ read_below SmallTable = omega arith
 
 -- a verdict whose answer is below 24
 unfoldable Below : Verdict → Type 0
-Below (Refuse r) = refused_number r < 24
-Below (Fits i) = Unit {0}
+Below (Err r) = refused_number r < 24
+Below (Ok i) = Unit {0}
 
 either_below : (t : Bool) (v w : Verdict) → Below v → Below w → Below (pick t v w)
 either_below true v w p q = p
@@ -115,30 +109,30 @@ either_below false v w p q = q
 
 module _ (b : Lent) where
   -- an order that keeps its ceiling
-  order_below : (school : List ℕ) (n : Copies) (ceiling : ℕ) (f : Found) → open_copies b school + n.0 ≤ ceiling → Below (order_judged b school n ceiling f)
+  order_below : (school : List ℕ) (n : Copies) (ceiling : ℕ) (f : Option ℕ) → open_copies b school + n.0 ≤ ceiling → Below (order_judged b school n ceiling f)
   unfolding Below refused_number order_judged new_line_judged
-  order_below school n ceiling (At i) h = omega arith
-  order_below school n ceiling Nothing h =
+  order_below school n ceiling (Some i) h = omega arith
+  order_below school n ceiling None h =
       rw (le-leb (open_copies b school + n.0) ceiling h) (either_below (ltb (used_lines b) (line_room b)) _ _ tt (omega arith))
 
   -- a delivery
-  goods_below : (n : Copies) (f : Found) → Below (goods_judged b n f)
+  goods_below : (n : Copies) (f : Option ℕ) → Below (goods_judged b n f)
   unfolding Below refused_number goods_judged arrival_judged
-  goods_below n Nothing = omega arith
-  goods_below n (At i) =
+  goods_below n None = omega arith
+  goods_below n (Some i) =
       either_below (leb ((line_at b.lines i).arrived.0 + n.0) most_arrived) _ _ (either_below (ltb (used_slips b) (slip_room b)) _ _ tt (omega arith)) (omega arith)
 
-  delivery_below : (key : List ℕ) (n : Copies) (f : Found) → Below (delivery_judged b key n f)
+  delivery_below : (key : List ℕ) (n : Copies) (f : Option ℕ) → Below (delivery_judged b key n f)
   unfolding Below refused_number delivery_judged slip_judged
-  delivery_below key n (At j) =
+  delivery_below key n (Some j) =
       either_below (key_is b.lines key (slip_line_at b.slips j) && eqb (slip_copies_at b.slips j).0 n.0) _ _ (omega arith) (omega arith)
-  delivery_below key n Nothing = goods_below n (find_line b key)
+  delivery_below key n None = goods_below n (find_line b key)
 
   -- a report
-  report_below : (f : Found) → Below (report_judged f)
+  report_below : (f : Option ℕ) → Below (report_judged f)
   unfolding Below refused_number report_judged
-  report_below Nothing = omega arith
-  report_below (At i) = tt
+  report_below None = omega arith
+  report_below (Some i) = tt
 
   -- 13, 11 and 12 come first
   fit_below : (k : Kind) (s roster : List ℕ) → Below (on_roster k s b (standing roster (school_in k s))) → Below (fit_judged k s roster b)
@@ -170,14 +164,14 @@ has_parties Closing s n f = omega (arith, f.wide)
 has_parties Report s n f = omega (arith, f.wide)
 
 -- what is judged of a record that is read, with the roster that it meets
-module _ (s : List ℕ) (b : Lent) (n : ℕ) (h : sound b ≡ true) (r : judged s ≡ ReadFits n) where
-  met_below : (k : Kind) → kind_of s ≡ Known k → school_in k s ≡ account_by (Known k) s → Below (fit_judged k s (own_roster s) b)
+module _ (s : List ℕ) (b : Lent) (n : ℕ) (h : sound b ≡ true) (r : judged s ≡ Ok n) where
+  met_below : (k : Kind) → kind_of s ≡ Some k → school_in k s ≡ account_by (Some k) s → Below (fit_judged k s (own_roster s) b)
   unfolding on_roster
   met_below k g e =
       let f = fitting k s n g r in
       fit_below b k s (own_roster s) (rw (own_stands s k g (has_parties k s n f) e) (book_below b k s n h f))
 
-  own_below : (k : Kind) → kind_of s ≡ Known k → Below (fit_judged k s (own_roster s) b)
+  own_below : (k : Kind) → kind_of s ≡ Some k → Below (fit_judged k s (own_roster s) b)
   unfolding Below refused_number account_by fit_judged nothing_to_book
   own_below Order g = met_below Order g (order_school_is s)
   own_below Goods g = met_below Goods g (goods_school_is s)
@@ -187,8 +181,8 @@ module _ (s : List ℕ) (b : Lent) (n : ℕ) (h : sound b ≡ true) (r : judged 
 -- what is settled by such a verdict
 settled_below : (k : Kind) (s : List ℕ) (b : Lent) (v : Verdict) → Below v → (settled k s b v).said.answer < 24
 unfolding Below settled refused_as entered_as done_as
-settled_below k s b (Refuse r) p = p
-settled_below k s b (Fits i) p = omega arith
+settled_below k s b (Err r) p = p
+settled_below k s b (Ok i) p = omega arith
 
 -- each record is answered below 24
 answer_below : (s : List ℕ) (b : Lent) → (book_own s b).said.answer < 24
@@ -196,13 +190,13 @@ unfolding book_own book refused_as refused_number
 answer_below s b =
     rw (own_sound s) (split (sound b) (λ h. rw h (at_reading h (judged s) refl)) (λ h. rw h (omega arith)))
   where
-    at_kind : sound b ≡ true → (n : ℕ) → judged s ≡ ReadFits n → (k : Kinded) → kind_of s ≡ k → (book_kind k s (own_roster s) b).said.answer < 24
-    at_kind h n r Unknown g = unfold book_kind refused_as refused_number in omega arith
-    at_kind h n r (Known k) g = unfold book_kind book_as in settled_below k s b _ (own_below s b n h r k g)
+    at_kind : sound b ≡ true → (n : ℕ) → judged s ≡ Ok n → (k : Option Kind) → kind_of s ≡ k → (book_kind k s (own_roster s) b).said.answer < 24
+    at_kind h n r None g = unfold book_kind refused_as refused_number in omega arith
+    at_kind h n r (Some k) g = unfold book_kind book_as in settled_below k s b _ (own_below s b n h r k g)
 
     at_reading : sound b ≡ true → (v : Reading) → judged s ≡ v → (book_read v s (own_roster s) b).said.answer < 24
-    at_reading h (ReadRefused x) r = unfold book_read refused_as refused_number in read_below x
-    at_reading h (ReadFits n) r = unfold book_read in at_kind h n r (kind_of s) refl
+    at_reading h (Err x) r = unfold book_read refused_as refused_number in read_below x
+    at_reading h (Ok n) r = unfold book_read in at_kind h n r (kind_of s) refl
 
 pub never_in_the_way : NeverInTheWay
 never_in_the_way s b =

@@ -1,15 +1,14 @@
 -- A record that meets a roster of its own entry alone (RULES 11).
-use Rattle.std.specs.Prelude.{ℕ, ◌≡◌, List, [], ◌++◌, ltb, length}
+use Rattle.std.specs.Prelude.{ℕ, ◌≡◌, List, [], ◌++◌, ltb, length, None, Option, Some}
 use Rattle.std.proofs.Math.Seq.{slice}
 use Rattle.cells.specs.Bytes.{pick}
 use Rattle.cells.specs.Little.{le_bytes}
 use Rattle.roster.specs.Roster.{ceiling_width, highest_ceiling}
 use Rattle.record.specs.Layout.{kind_of}
 use Rattle.record.specs.declared.layout.Kind.TheVariants.{Order, Goods, Closing, Report}
-use Rattle.record.specs.declared.layout.Kinded.{Kinded}
-use Rattle.record.specs.declared.layout.Kinded.TheVariants.{Known, Unknown}
 use Rattle.book.specs.Lent.{Lent}
 use Rattle.book.specs.Booking.{Outcome, book}
+use Rattle.record.specs.declared.layout.Kind.{Kind}
 
 -- where a record's sender and recipient stand, each with its qualifier
 abbrev pub sender_at : ℕ
@@ -22,12 +21,12 @@ abbrev pub parties_end : ℕ
 parties_end = 28
 
 -- a record's own account: the sender's of an order, else the recipient's
-unfoldable pub account_by : Kinded → List ℕ → List ℕ
-account_by (Known Order) s = slice sender_at recipient_at s
-account_by (Known Goods) s = slice recipient_at parties_end s
-account_by (Known Closing) s = slice recipient_at parties_end s
-account_by (Known Report) s = slice recipient_at parties_end s
-account_by Unknown s = slice recipient_at parties_end s
+unfoldable pub account_by : Option Kind → List ℕ → List ℕ
+account_by (Some Order) s = slice sender_at recipient_at s
+account_by (Some Goods) s = slice recipient_at parties_end s
+account_by (Some Closing) s = slice recipient_at parties_end s
+account_by (Some Report) s = slice recipient_at parties_end s
+account_by None s = slice recipient_at parties_end s
 
 -- one entry: its own account with the highest ceiling
 unfoldable pub own_entry : List ℕ → List ℕ

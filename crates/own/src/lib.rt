@@ -11,7 +11,7 @@ use book::answer::Booked;
 use booking::book;
 use cells::little::put4;
 use cells::{part, paste_at};
-use record::layout::{Kind, Kinded, kind_of};
+use record::layout::{Kind, kind_of};
 use record::places::{PARTIES_END, RECIPIENT, SENDER};
 use roster::ACCOUNT_WIDTH;
 
@@ -23,8 +23,8 @@ fn own_account(s: &[u8]) -> &[u8]
     ensures { result.now ≡ account_by (kind_of s.now) s.now }
 {
     match kind_of(s) {
-        Kinded::Unknown => part(s, RECIPIENT, PARTIES_END),
-        Kinded::Known(k) => match k {
+        None => part(s, RECIPIENT, PARTIES_END),
+        Some(k) => match k {
             Kind::Order => part(s, SENDER, RECIPIENT),
             Kind::Goods => part(s, RECIPIENT, PARTIES_END),
             Kind::Closing => part(s, RECIPIENT, PARTIES_END),

@@ -18,8 +18,8 @@ use Rattle.record.specs.declared.layout.Kind.TheVariants.{Order, Goods, Closing,
 use Rattle.writing.specs.Widths.{all_inside}
 use Rattle.writing.specs.Write.{◌next◌, content_in, optional_in, optional_of, inside, writable, next_id, entry_kept, fields_judged}
 use Rattle.writing.specs.declared.answer.Refusal.TheVariants.{Content}
-use Rattle.writing.specs.declared.answer.Verdict.{Verdict}
-use Rattle.writing.specs.declared.answer.Verdict.TheVariants.{Refused, Fits}
+use Rattle.writing.specs.Verdicts.{Verdict}
+use Rattle.std.specs.Prelude.{Err, Ok}
 use Rattle.writing.specs.declared.entries.Entry.{Entry}
 use Rattle.parts.specs.Loops.{loop}
 use Rattle.parts.specs.Part.{part_width}
@@ -45,10 +45,10 @@ lent_ordered (suc n) s at before = lent_ordered n s (at + part_width) 1151
 
 -- what is said of fields by their first fault, where the first of them has index i
 unfoldable pub faulted : ℕ → List Optional → Verdict
-faulted i fs = pick (ltb (first_fault fs) (length fs)) (Refused (Content (i + first_fault fs))) (Fits 0)
+faulted i fs = pick (ltb (first_fault fs) (length fs)) (Err (Content (i + first_fault fs))) (Ok 0)
 
 -- where there are none, after a field that can be written, and at one that cannot
-none_faulty : (i : ℕ) → Fits 0 ≡ faulted i []
+none_faulty : (i : ℕ) → Ok 0 ≡ faulted i []
 unfolding faulted first_fault
 none_faulty i = refl
 
@@ -60,7 +60,7 @@ kept_on i f fs h =
     (λ t. rw (h, t, lt-ltb (suc (first_fault fs)) (suc (length fs)) (omega (arith, ltb-true (first_fault fs) (length fs) t)), n))
     (λ t. rw (h, t, le-ltb (suc (first_fault fs)) (suc (length fs)) (omega (arith, ltb-false (first_fault fs) (length fs) t))))
 
-faulty_here : (i : ℕ) (f : Optional) (fs : List Optional) → is_kept f.id f.content ≡ false → Refused (Content i) ≡ faulted i (f ∷ fs)
+faulty_here : (i : ℕ) (f : Optional) (fs : List Optional) → is_kept f.id f.content ≡ false → Err (Content i) ≡ faulted i (f ∷ fs)
 unfolding faulted first_fault
 faulty_here i f fs h = rw (h, lt-ltb 0 (suc (length fs)) (omega arith), add-zero i)
 
@@ -110,10 +110,10 @@ fault_most (f ∷ fs) =
     split (is_kept f.id f.content) (λ t. rw t (omega arith)) (λ t. rw t (omega arith))
 
 -- and where all fields fit, there is none
-pub fits_faultless : (a : Verdict) (i : ℕ) (fs : List Optional) (m : ℕ) → (a next faulted i fs) ≡ Fits m → first_fault fs ≡ length fs
+pub fits_faultless : (a : Verdict) (i : ℕ) (fs : List Optional) (m : ℕ) → (a next faulted i fs) ≡ Ok m → first_fault fs ≡ length fs
 unfolding ◌next◌ faulted
-fits_faultless (Refused r) i fs m h = let z : ◌≡◌ {A = ℕ} 0 1 = cc in absurd (omega arith)
-fits_faultless (Fits l) i fs m h =
+fits_faultless (Err r) i fs m h = let z : ◌≡◌ {A = ℕ} 0 1 = cc in absurd (omega arith)
+fits_faultless (Ok l) i fs m h =
     split (ltb (first_fault fs) (length fs))
-    (λ t. let w : ◌≡◌ {A = Verdict} (Refused (Content (i + first_fault fs))) (Fits m) = rw t at h in let z : ◌≡◌ {A = ℕ} 0 1 = cc in absurd (omega arith))
+    (λ t. let w : ◌≡◌ {A = Verdict} (Err (Content (i + first_fault fs))) (Ok m) = rw t at h in let z : ◌≡◌ {A = ℕ} 0 1 = cc in absurd (omega arith))
     (λ t. omega (arith, ltb-false (first_fault fs) (length fs) t, fault_most fs))

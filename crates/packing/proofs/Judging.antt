@@ -10,7 +10,7 @@ use Rattle.record.specs.Fields.{Optional}
 use Rattle.record.specs.Read.{entry_width}
 use Rattle.record.specs.declared.layout.Kind.{Kind}
 use Rattle.writing.specs.Write.{◌next◌, entries, fields_judged}
-use Rattle.writing.specs.declared.answer.Verdict.{Verdict}
+use Rattle.writing.specs.Verdicts.{Verdict}
 use Rattle.writing.proofs.Halves.{entries_length}
 use Rattle.parts.specs.Loops.{are_loops}
 use Rattle.parts.specs.Fields.{lent_fields}

@@ -17,8 +17,8 @@ use Rattle.writing.specs.Widths.{width_after, all_inside}
 use Rattle.writing.specs.Write.{◌next◌, entries, optional_of, fields_judged, record_text, length_judged, written_of, outcome}
 use Rattle.writing.specs.declared.answer.Refusal.{Refusal}
 use Rattle.writing.specs.declared.answer.Refusal.TheVariants.{TooManyFields, SmallTable, Content}
-use Rattle.writing.specs.declared.answer.Verdict.{Verdict}
-use Rattle.writing.specs.declared.answer.Verdict.TheVariants.{Refused, Fits}
+use Rattle.writing.specs.Verdicts.{Verdict}
+use Rattle.std.specs.Prelude.{Err, Ok}
 use Rattle.writing.proofs.Stages.{many_refused, table_refused, fields_refused, fields_fit, write_refused, write_fits}
 use Rattle.writing.proofs.Fitting.{fitting, fields_inside, fits_inside, fits_stored}
 use Rattle.parts.specs.Loops.{loop_fields, are_loops}
@@ -35,7 +35,7 @@ use Rattle.packing.proofs.Judging.{judged_together}
 
 -- 8 over all fields, 23, then 9 and 10 of the table's fields and of the parts'
 module _ (k : Kind) (fixed table : List ℕ) (count : ℕ) (contents room : List ℕ) (n : ℕ) (out : List ℕ) where
-  pub all_many : most_fields < count + n * loop_fields → rest_with (lent_fields n room 0) k fixed table count contents out ≡ Refused TooManyFields
+  pub all_many : most_fields < count + n * loop_fields → rest_with (lent_fields n room 0) k fixed table count contents out ≡ Err TooManyFields
   unfolding rest_with
   all_many h = many_refused k fixed _ _ _ out (rw (lent_long n room 0) h)
 
@@ -44,7 +44,7 @@ module _ (k : Kind) (fixed table : List ℕ) (count : ℕ) (contents room : List
     sum : count + length (lent_fields n room 0) ≤ most_fields
     sum = rw (lent_long n room 0) few
 
-    pub table_small : length table < count * entry_width → rest_with (lent_fields n room 0) k fixed table count contents out ≡ Refused SmallTable
+    pub table_small : length table < count * entry_width → rest_with (lent_fields n room 0) k fixed table count contents out ≡ Err SmallTable
     unfolding rest_with
     table_small h = table_refused k fixed _ _ _ out sum (table_short (lent_fields n room 0) table count h)
 
@@ -59,19 +59,19 @@ module _ (k : Kind) (fixed table : List ℕ) (count : ℕ) (contents room : List
           fields_judged k (contents_with more contents) no_member 0 (entries (count + length more) (table_with more table count)) ≡ (u next faulted count more)
       said u a = judged_together k table contents count room n h loops ∙ rw a
 
-      pub first_refused : (r : Refusal) → fields_judged k contents no_member 0 (entries count table) ≡ Refused r
-          → rest_with (lent_fields n room 0) k fixed table count contents out ≡ Refused r
+      pub first_refused : (r : Refusal) → fields_judged k contents no_member 0 (entries count table) ≡ Err r
+          → rest_with (lent_fields n room 0) k fixed table count contents out ≡ Err r
       unfolding rest_with ◌next◌
-      first_refused r a = fields_refused k fixed _ _ _ out sum whole r (said (Refused r) a)
+      first_refused r a = fields_refused k fixed _ _ _ out sum whole r (said (Err r) a)
 
-      module _ (m : ℕ) (a : fields_judged k contents no_member 0 (entries count table) ≡ Fits m) where
+      module _ (m : ℕ) (a : fields_judged k contents no_member 0 (entries count table) ≡ Ok m) where
         pub second_refused : first_fault (lent_fields n room 0) < n * loop_fields
-            → rest_with (lent_fields n room 0) k fixed table count contents out ≡ Refused (Content (count + first_fault (lent_fields n room 0)))
+            → rest_with (lent_fields n room 0) k fixed table count contents out ≡ Err (Content (count + first_fault (lent_fields n room 0)))
         unfolding rest_with ◌next◌ faulted
         second_refused b =
             let more = lent_fields n room 0 in
             fields_refused k fixed _ _ _ out sum whole (Content (count + first_fault more))
-            (said (Fits m) a ∙ rw (lt-ltb (first_fault more) (length more) (rw (lent_long n room 0) b)))
+            (said (Ok m) a ∙ rw (lt-ltb (first_fault more) (length more) (rw (lent_long n room 0) b)))
 
         -- then the length, reckoned of the table and of the parts
         pub all_fit : n * loop_fields ≤ first_fault (lent_fields n room 0)
@@ -81,7 +81,7 @@ module _ (k : Kind) (fixed table : List ℕ) (count : ℕ) (contents room : List
         all_fit b =
             let more = lent_fields n room 0 in
             let es = entries count table in
-            fields_fit k fixed _ _ _ out sum whole 0 (said (Fits m) a ∙ rw (le-ltb (first_fault more) (length more) (rw (lent_long n room 0) b)))
+            fields_fit k fixed _ _ _ out sum whole 0 (said (Ok m) a ∙ rw (le-ltb (first_fault more) (length more) (rw (lent_long n room 0) b)))
             ∙ ap (λ (w : ℕ). length_judged w out)
             (ap (λ (fs : List Optional). length (record_text fixed fs)) (named_together table contents count more h)
             ∙ joined_wide fixed contents es more (fields_inside k contents no_member 0 es m a))
@@ -99,12 +99,12 @@ pub record Placed (fixed table : List ℕ) (count : ℕ) (contents room : List �
 
 module _ (fixed table : List ℕ) (count : ℕ) (contents room : List ℕ) (n : ℕ) (out : List ℕ) where
   -- on a refusal the output stays as it was
-  pub with_refused : (r : Refusal) → judged_with (lent_fields n room 0) fixed table count contents out ≡ Refused r
-      → write_with (lent_fields n room 0) fixed table count contents out ≡ outcome (written_of (Refused r)) out
+  pub with_refused : (r : Refusal) → judged_with (lent_fields n room 0) fixed table count contents out ≡ Err r
+      → write_with (lent_fields n room 0) fixed table count contents out ≡ outcome (written_of (Err r)) out
   unfolding judged_with write_with
   with_refused r e = write_refused fixed _ _ _ out r e
 
-  module _ (m : ℕ) (e : judged_with (lent_fields n room 0) fixed table count contents out ≡ Fits m) where
+  module _ (m : ℕ) (e : judged_with (lent_fields n room 0) fixed table count contents out ≡ Ok m) where
     -- a record that is written is all that
     pub placed : are_loops n (lent_fields n room 0) ≡ true → Placed fixed table count contents room n out m
     unfolding judged_with fixed_width
@@ -128,7 +128,7 @@ module _ (fixed table : List ℕ) (count : ℕ) (contents room : List ℕ) (n : 
 
     -- stored at the front of the output, it is what is to be written
     pub with_fits : write_with (lent_fields n room 0) fixed table count contents out
-        ≡ outcome (written_of (Fits m)) (sets out 0 (record_text fixed (optional_of contents (entries count table) ++ lent_fields n room 0)))
+        ≡ outcome (written_of (Ok m)) (sets out 0 (record_text fixed (optional_of contents (entries count table) ++ lent_fields n room 0)))
     unfolding judged_with write_with
     with_fits =
         let more = lent_fields n room 0 in

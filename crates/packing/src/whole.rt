@@ -17,7 +17,7 @@ use faults::{first_fault, loops_width};
 use parts::loops::LOOP_FIELDS;
 use putting::put_loops;
 use record::fields::{ENTRY_WIDTH, HEAD_WIDTH};
-use record::layout::{Kind, Kinded, MOST_BYTES, MOST_FIELDS, kind_of};
+use record::layout::{Kind, MOST_BYTES, MOST_FIELDS, kind_of};
 use writer::judge_length;
 use writer::output::put_record;
 use writing::answer::{Refusal, Verdict, Written, written_of};
@@ -38,7 +38,7 @@ fn judge_whole(
 {
     let body = record_width(width, table, fields);
     if MOST_BYTES < body {
-        return Verdict::Refused(Refusal::TooLong);
+        return Err(Refusal::TooLong);
     }
     judge_length(body + loops_width(room, n), out)
 }
@@ -59,17 +59,17 @@ fn judge_rest(
 {
     let more = n * LOOP_FIELDS;
     if MOST_FIELDS - more < fields {
-        return Verdict::Refused(Refusal::TooManyFields);
+        return Err(Refusal::TooManyFields);
     }
     if table.len() < fields * ENTRY_WIDTH {
-        return Verdict::Refused(Refusal::SmallTable);
+        return Err(Refusal::SmallTable);
     }
     match judge_fields(k, table, fields, contents) {
-        Verdict::Refused(r) => Verdict::Refused(r),
-        Verdict::Fits(_) => {
+        Err(r) => Err(r),
+        Ok(_) => {
             let fault = first_fault(room, n);
             if fault < more {
-                return Verdict::Refused(Refusal::Content(fields + fault));
+                return Err(Refusal::Content(fields + fault));
             }
             judge_whole(fixed.len(), table, fields, room, n, out)
         }
@@ -90,10 +90,10 @@ fn judge_with(
     ensures { result ≡ judged_with (lent_fields n room.now 0) fixed.now table.now fields contents.now out.now }
 {
     match judge_fixed(fixed) {
-        Verdict::Refused(r) => Verdict::Refused(r),
-        Verdict::Fits(_) => match kind_of(fixed) {
-            Kinded::Unknown => Verdict::Refused(Refusal::FixedField(0)),
-            Kinded::Known(k) => judge_rest(k, fixed, table, fields, contents, room, n, out),
+        Err(r) => Err(r),
+        Ok(_) => match kind_of(fixed) {
+            None => Err(Refusal::FixedField(0)),
+            Some(k) => judge_rest(k, fixed, table, fields, contents, room, n, out),
         },
     }
 }
@@ -131,10 +131,10 @@ pub fn write_with(
     ensures { outcome result out.new ≡ write_with (lent_fields n room.now 0) fixed.now table.now fields contents.now out.old }
 {
     match judge_with(fixed, table, fields, contents, room, n, out) {
-        Verdict::Refused(r) => written_of(Verdict::Refused(r)),
-        Verdict::Fits(length) => {
+        Err(r) => written_of(Err(r)),
+        Ok(length) => {
             put_with(out, fixed, table, fields, contents, room, n);
-            written_of(Verdict::Fits(length))
+            written_of(Ok(length))
         }
     }
 }

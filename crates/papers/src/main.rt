@@ -5,7 +5,7 @@ ghost use Rattle.std.specs.Prelude.{◌≤◌, length};
 
 use cells::{part, same};
 use reader::{check, read_delivery, read_order, read_report};
-use record::layout::{Kind, Kinded, MOST_FIELDS, fixed_width, kind_of};
+use record::layout::{Kind, MOST_FIELDS, fixed_width, kind_of};
 use shown::{number, show_values, text};
 use shown_parts::show_parts;
 use std::io;
@@ -85,8 +85,8 @@ fn write_back<W: Write>(
 ) -> io::Result<()> {
     let mut record = [0u8; 1024];
     match kind_of(s) {
-        Kinded::Unknown => text(out, b"  unknown kind\n"),
-        Kinded::Known(k) => {
+        None => text(out, b"  unknown kind\n"),
+        Some(k) => {
             let w = write(part(s, 0, fixed_width(k)), table, fields, s, &mut record);
             show_written(out, b"  bytes", w, &record, s)?;
             write_values(out, k, s, table, fields)

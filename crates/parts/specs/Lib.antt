@@ -1,3 +1,4 @@
+pub mod Verdicts
 pub mod Loops
 pub mod Part
 pub mod Fields

@@ -1,5 +1,5 @@
 -- Writing a record with parts (RULES 5.4).
-use Rattle.std.specs.Prelude.{ℕ, zero, suc, ◌+◌, ◌*◌, ◌/◌, min, Bool, not, ◌||◌, List, [], ◌∷◌, ◌++◌, eqb, ltb, length, drop, get_or}
+use Rattle.std.specs.Prelude.{ℕ, zero, suc, ◌+◌, ◌*◌, ◌/◌, min, Bool, not, ◌||◌, List, [], ◌∷◌, ◌++◌, eqb, ltb, length, drop, get_or, Err, Ok}
 use Rattle.cells.specs.Bytes.{pick}
 use Rattle.record.specs.Fields.{Optional}
 use Rattle.record.specs.Read.{entry_width}
@@ -10,8 +10,7 @@ use Rattle.parts.specs.Part.{part_width}
 use Rattle.parts.specs.Fields.{lent_fields}
 use Rattle.parts.specs.Answers.{not_written}
 use Rattle.parts.specs.declared.answer.Refusal.TheVariants.{SmallRoom, Broken, TooMany}
-use Rattle.parts.specs.declared.answer.Verdict.{Verdict}
-use Rattle.parts.specs.declared.answer.Verdict.TheVariants.{Refused, Fits}
+use Rattle.parts.specs.Verdicts.{Verdict}
 
 -- the contents of fields, one after the other, and the fields' entries in a table, where the first content stands at a place
 unfoldable pub contents_of : List Optional → List ℕ
@@ -57,15 +56,15 @@ is_broken fixed table count parts n = is_misplaced fixed table count n || not (a
 -- 27, 23, 26
 unfoldable pub parts_refused : List ℕ → List ℕ → ℕ → List ℕ → ℕ → Verdict
 parts_refused fixed table count parts n =
-    pick (ltb most_parts n) (Refused TooMany)
-    (pick (ltb (length parts) (n * part_width)) (Refused SmallRoom)
-    (pick (is_broken fixed table count parts n) (Refused Broken)
-    (Fits n)))
+    pick (ltb most_parts n) (Err TooMany)
+    (pick (ltb (length parts) (n * part_width)) (Err SmallRoom)
+    (pick (is_broken fixed table count parts n) (Err Broken)
+    (Ok n)))
 
 -- then the rest over all fields
 unfoldable pub written_with : Verdict → List ℕ → List ℕ → ℕ → List ℕ → List ℕ → List ℕ → Outcome
-written_with (Refused r) fixed table count contents parts out = outcome (not_written r) out
-written_with (Fits n) fixed table count contents parts out = write_with (lent_fields n parts 0) fixed table count contents out
+written_with (Err r) fixed table count contents parts out = outcome (not_written r) out
+written_with (Ok n) fixed table count contents parts out = write_with (lent_fields n parts 0) fixed table count contents out
 
 unfoldable pub write_parts : List ℕ → List ℕ → ℕ → List ℕ → List ℕ → ℕ → List ℕ → Outcome
 write_parts fixed table count contents parts n out =

@@ -13,12 +13,8 @@ pub enum Refusal {
     TooMany,
 }
 
-// A refusal, or the number of parts.
-#[derive(Clone, Copy)]
-pub enum Verdict {
-    Refused(Refusal),
-    Fits(usize),
-}
+// The number of parts, or a refusal.
+pub type Verdict = Result<usize, Refusal>;
 
 // The answer number and place, and the number of parts.
 #[repr(C)]
@@ -44,12 +40,12 @@ pub fn read_of(v: Verdict) -> PartsRead
     ensures { result ≡ read_of v }
 {
     match v {
-        Verdict::Refused(r) => PartsRead {
+        Err(r) => PartsRead {
             answer: refusal_number(r),
             place: 0,
             parts: 0,
         },
-        Verdict::Fits(n) => PartsRead {
+        Ok(n) => PartsRead {
             answer: 0,
             place: 0,
             parts: n,

@@ -29,12 +29,12 @@ pub fn judge_room(
 {
     let count = used[0];
     if ceiling < open_copies(lines, count, school) + copies.0 {
-        return Verdict::Refuse(Refused::CeilingPassed);
+        return Err(Refused::CeilingPassed);
     }
     if count < lines.len() / LINE_WIDTH {
-        return Verdict::Fits(count);
+        return Ok(count);
     }
-    Verdict::Refuse(Refused::LinesUsed)
+    Err(Refused::LinesUsed)
 }
 
 // 17 or 18, where the slip key is booked at j.
@@ -50,9 +50,9 @@ pub fn judge_slip(
     ensures { result ≡ slip_judged (lent lines.now slips.now used.now) (joined (map (λ x. x.now) key.entry)) copies j }
 {
     if key_is(lines, slip_line(slips, j), key) & (slip_copies(slips, j).0 == copies.0) {
-        return Verdict::Refuse(Refused::SlipBooked);
+        return Err(Refused::SlipBooked);
     }
-    Verdict::Refuse(Refused::SlipDiffers)
+    Err(Refused::SlipDiffers)
 }
 
 // 21, 19, where the line stands at i.
@@ -68,10 +68,10 @@ pub fn judge_arrival(
 {
     let l = read_line(lines, i);
     if MOST_ARRIVED < l.arrived.0 + copies.0 {
-        return Verdict::Refuse(Refused::TooManyArrived);
+        return Err(Refused::TooManyArrived);
     }
     if used[1] < slips.len() / SLIP_WIDTH {
-        return Verdict::Fits(i);
+        return Ok(i);
     }
-    Verdict::Refuse(Refused::SlipsUsed)
+    Err(Refused::SlipsUsed)
 }

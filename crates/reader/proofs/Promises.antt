@@ -10,8 +10,8 @@ use Rattle.record.specs.Layout.{most_fields}
 use Rattle.record.specs.Answers.{checked_of}
 use Rattle.record.specs.Read.{judged, entry_width, Outcome, outcome, table_after, check, read_order, read_delivery, read_report}
 use Rattle.record.specs.declared.answer.Refusal.TheVariants.{SmallTable}
-use Rattle.record.specs.declared.answer.Verdict.{Verdict}
-use Rattle.record.specs.declared.answer.Verdict.TheVariants.{Refused, Fits}
+use Rattle.record.specs.Verdicts.{Verdict}
+use Rattle.std.specs.Prelude.{Err, Ok}
 use Rattle.record.specs.declared.answer.Checked.{Checked}
 use Rattle.record.specs.declared.answer.ReadOrder.{ReadOrder}
 use Rattle.record.specs.declared.answer.ReadDelivery.{ReadDelivery}
@@ -41,8 +41,8 @@ report_unique s r r' p q = p ∙ sym q
 -- a verdict that is not answered 0 leaves a table as it was
 verdict_keeps : (v : Verdict) (s table : List ℕ) → ((checked_of v).answer ≡ 0 → ⊥) → table_after v s table ≡ table
 unfolding checked_of table_after
-verdict_keeps (Refused r) s table h = refl
-verdict_keeps (Fits n) s table h = absurd (h refl)
+verdict_keeps (Err r) s table h = refl
+verdict_keeps (Ok n) s table h = absurd (h refl)
 
 -- a check that does not answer 0 leaves the lent table as it was
 pub refusal_keeps : (s table : List ℕ) → ((check s table).said.answer ≡ 0 → ⊥) → (check s table).table ≡ table
@@ -50,7 +50,7 @@ unfolding check
 refusal_keeps s table = go (ltb (length table) (most_fields * entry_width))
   where
     go : (small : Bool)
-        → ((pick small (outcome (checked_of (Refused SmallTable)) table) (outcome (checked_of (judged s)) (table_after (judged s) s table))).said.answer ≡ 0 → ⊥)
-        → (pick small (outcome (checked_of (Refused SmallTable)) table) (outcome (checked_of (judged s)) (table_after (judged s) s table))).table ≡ table
+        → ((pick small (outcome (checked_of (Err SmallTable)) table) (outcome (checked_of (judged s)) (table_after (judged s) s table))).said.answer ≡ 0 → ⊥)
+        → (pick small (outcome (checked_of (Err SmallTable)) table) (outcome (checked_of (judged s)) (table_after (judged s) s table))).table ≡ table
     go true h = refl
     go false h = verdict_keeps (judged s) s table h

@@ -6,15 +6,15 @@ use Rattle.record.specs.Answers.{checked_of}
 use Rattle.record.specs.Values.{order_of, delivery_of, report_of, no_order, no_delivery, no_report}
 use Rattle.record.specs.Read.{order_from, delivery_from, report_from}
 use Rattle.record.specs.declared.answer.Refusal.{Refusal}
-use Rattle.record.specs.declared.answer.Verdict.{Verdict}
-use Rattle.record.specs.declared.answer.Verdict.TheVariants.{Refused, Fits}
+use Rattle.record.specs.Verdicts.{Verdict}
+use Rattle.std.specs.Prelude.{Err, Ok}
 use Rattle.record.specs.declared.answer.Checked.{Checked}
 use Rattle.record.specs.declared.values.Order.{Order}
 use Rattle.record.specs.declared.values.Delivery.{Delivery}
 use Rattle.record.specs.declared.values.Report.{Report}
 
 module _ (s : List ℕ) (v w : Verdict) (same : v ≡ w) (said : Checked) (c : said ≡ checked_of v) where
-  module _ (r : Refusal) (e : v ≡ Refused r) where
+  module _ (r : Refusal) (e : v ≡ Err r) where
     pub no_order_read : (o : Order) → o ≡ no_order → record { checked = said; order = o } ≡ order_from w s
     unfolding order_from
     no_order_read o h = rw (h, c, ← same, e)
@@ -27,7 +27,7 @@ module _ (s : List ℕ) (v w : Verdict) (same : v ≡ w) (said : Checked) (c : s
     unfolding report_from
     no_report_read m h = rw (h, c, ← same, e)
 
-  module _ (n : ℕ) (e : v ≡ Fits n) where
+  module _ (n : ℕ) (e : v ≡ Ok n) where
     pub order_read : (o : Order) → o ≡ order_of s → record { checked = said; order = o } ≡ order_from w s
     unfolding order_from
     order_read o h = rw (h, c, ← same, e)

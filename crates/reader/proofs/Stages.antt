@@ -16,55 +16,54 @@ use Rattle.record.specs.Fields.{head_width, walk, judge, entries_of}
 use Rattle.record.specs.Read.{bytes_judged, fixed_judged, after_walk, optional_judged, kind_judged, judged, entry_width, outcome, optional_start, table_after, check, judged_as}
 use Rattle.record.specs.declared.answer.Refusal.{Refusal}
 use Rattle.record.specs.declared.answer.Refusal.TheVariants.{TooLong, UnknownKind, TooShort, Byte, FixedField, SmallTable}
-use Rattle.record.specs.declared.answer.Verdict.TheVariants.{Refused, Fits}
+use Rattle.std.specs.Prelude.{Err, Ok, Some}
 use Rattle.record.specs.declared.layout.Kind.{Kind}
-use Rattle.record.specs.declared.layout.Kinded.TheVariants.{Known}
 
 -- 6 to 10, from what the two walks say
 module _ (k : Kind) (p : ℕ) (t : List ℕ) where
-  pub walk_refused : (r : Refusal) → walk most_fields 0 p t ≡ Refused r → optional_judged k p t ≡ Refused r
+  pub walk_refused : (r : Refusal) → walk most_fields 0 p t ≡ Err r → optional_judged k p t ≡ Err r
   unfolding optional_judged after_walk
   walk_refused r e = rw e
 
-  module _ (n : ℕ) (e : walk most_fields 0 p t ≡ Fits n) where
-    pub judge_refused : (r : Refusal) → judge k n no_member p t ≡ Refused r → optional_judged k p t ≡ Refused r
+  module _ (n : ℕ) (e : walk most_fields 0 p t ≡ Ok n) where
+    pub judge_refused : (r : Refusal) → judge k n no_member p t ≡ Err r → optional_judged k p t ≡ Err r
     unfolding optional_judged after_walk ◌then◌
     judge_refused r g = rw (e, g)
 
     -- with no fields there is nothing to judge
-    pub none_fits : n ≡ 0 → optional_judged k p t ≡ Fits 0
+    pub none_fits : n ≡ 0 → optional_judged k p t ≡ Ok 0
     unfolding optional_judged after_walk judge ◌then◌
     none_fits z = rw (e, z)
 
-    pub judge_fits : (m : ℕ) → judge k n no_member p t ≡ Fits m → optional_judged k p t ≡ Fits n
+    pub judge_fits : (m : ℕ) → judge k n no_member p t ≡ Ok m → optional_judged k p t ≡ Ok n
     unfolding optional_judged after_walk ◌then◌
     judge_fits m g = rw (e, g)
 
 -- 3 to 10, of a known kind
 module _ (k : Kind) (s : List ℕ) where
-  pub kind_short : length s < fixed_width k + head_width → kind_judged (Known k) s ≡ Refused (TooShort (length s))
+  pub kind_short : length s < fixed_width k + head_width → kind_judged (Some k) s ≡ Err (TooShort (length s))
   unfolding kind_judged
   kind_short h = rw (lt-ltb _ _ h)
 
   module _ (h : fixed_width k + head_width ≤ length s) where
-    pub kind_byte_law : (run (belongs Allowed) s ≡ length s → ⊥) → kind_judged (Known k) s ≡ Refused (Byte (run (belongs Allowed) s))
+    pub kind_byte_law : (run (belongs Allowed) s ≡ length s → ⊥) → kind_judged (Some k) s ≡ Err (Byte (run (belongs Allowed) s))
     unfolding kind_judged bytes_judged ◌then◌
     kind_byte_law g = rw (le-ltb _ _ h, ne_eqb _ _ g)
 
     module _ (g : run (belongs Allowed) s ≡ length s) where
       pub kind_fixed : (first_broken (layout k) s ≡ length (layout k) → ⊥)
-          → kind_judged (Known k) s ≡ Refused (FixedField (start_of (layout k) (first_broken (layout k) s)))
+          → kind_judged (Some k) s ≡ Err (FixedField (start_of (layout k) (first_broken (layout k) s)))
       unfolding kind_judged bytes_judged fixed_judged ◌then◌
       kind_fixed b = rw (le-ltb _ _ h, eq-eqb _ _ g, ne_eqb _ _ b)
 
       pub kind_rest : first_broken (layout k) s ≡ length (layout k)
-          → kind_judged (Known k) s ≡ optional_judged k (fixed_width k) (drop (fixed_width k) s)
+          → kind_judged (Some k) s ≡ optional_judged k (fixed_width k) (drop (fixed_width k) s)
       unfolding kind_judged bytes_judged fixed_judged ◌then◌
       kind_rest b = rw (le-ltb _ _ h, eq-eqb _ _ g, eq-eqb _ _ b)
 
 -- 1 and 2
 module _ (s : List ℕ) where
-  pub too_long : most_bytes < length s → judged s ≡ Refused TooLong
+  pub too_long : most_bytes < length s → judged s ≡ Err TooLong
   unfolding judged
   too_long h = rw (lt-ltb _ _ h)
 
@@ -74,11 +73,11 @@ module _ (s : List ℕ) where
 
 -- a record wanted of one kind
 module _ (name s : List ℕ) where
-  pub as_long : most_bytes < length s → judged_as name s ≡ Refused TooLong
+  pub as_long : most_bytes < length s → judged_as name s ≡ Err TooLong
   unfolding judged_as
   as_long h = rw (lt-ltb _ _ h)
 
-  pub as_other : length s ≤ most_bytes → same (slice 0 4 s) name ≡ false → judged_as name s ≡ Refused UnknownKind
+  pub as_other : length s ≤ most_bytes → same (slice 0 4 s) name ≡ false → judged_as name s ≡ Err UnknownKind
   unfolding judged_as
   as_other h e = rw (le-ltb _ _ h, e)
 
@@ -88,16 +87,16 @@ module _ (name s : List ℕ) where
 
 -- a check with a lent table
 module _ (s table : List ℕ) where
-  pub small_table : length table < most_fields * entry_width → check s table ≡ outcome (checked_of (Refused SmallTable)) table
+  pub small_table : length table < most_fields * entry_width → check s table ≡ outcome (checked_of (Err SmallTable)) table
   unfolding check
   small_table h = rw (lt-ltb _ _ h)
 
   module _ (h : most_fields * entry_width ≤ length table) where
-    pub check_refused : (r : Refusal) → judged s ≡ Refused r → check s table ≡ outcome (checked_of (Refused r)) table
+    pub check_refused : (r : Refusal) → judged s ≡ Err r → check s table ≡ outcome (checked_of (Err r)) table
     unfolding check table_after
     check_refused r e = rw (le-ltb _ _ h, e)
 
-    pub check_fits : (n : ℕ) → judged s ≡ Fits n
-        → check s table ≡ outcome (checked_of (Fits n)) (entries_of n (optional_start (kind_of s)) (drop (optional_start (kind_of s)) s) ++ drop (n * entry_width) table)
+    pub check_fits : (n : ℕ) → judged s ≡ Ok n
+        → check s table ≡ outcome (checked_of (Ok n)) (entries_of n (optional_start (kind_of s)) (drop (optional_start (kind_of s)) s) ++ drop (n * entry_width) table)
     unfolding check table_after
     check_fits n e = rw (le-ltb _ _ h, e)

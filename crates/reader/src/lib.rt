@@ -1,18 +1,14 @@
 // Reading a record: judged whole, with the table of its optional fields, and into typed values.
 #![tactic(auto)]
 
-ghost use Rattle.std.specs.Prelude.{◌≡◌, ◌≤◌, length, drop};
+ghost use Rattle.std.specs.Prelude.{◌≡◌, ◌≤◌, length, drop, Some};
 ghost use Rattle.record.specs.Layout.{fixed_width, kind_of};
 ghost use Rattle.record.specs.Read.{optional_judged, kind_judged, judged, outcome, optional_start, check, judged_as, read_order, read_delivery, read_report};
-ghost use Rattle.record.specs.declared.layout.Kinded.TheVariants.{Known};
 
 use cells::{part, same};
 use record::answer::{Checked, ReadDelivery, ReadOrder, ReadReport, Refusal, Verdict, checked_of};
 use record::fields::{ENTRY_WIDTH, HEAD_WIDTH};
-use record::layout::{
-    KIND_WIDTH, Kind, Kinded, MOST_BYTES, MOST_FIELDS, field_count, first_broken, fixed_width,
-    kind_of, start_of,
-};
+use record::layout::{KIND_WIDTH, Kind, MOST_BYTES, MOST_FIELDS, field_count, first_broken, fixed_width, kind_of, start_of};
 use signs::allowed_run;
 use values::{delivery_of, no_delivery, no_order, no_report, order_of, report_of};
 
@@ -22,14 +18,14 @@ fn judge_optional(k: Kind, s: &[u8], from: usize) -> Verdict
     ensures { result ≡ optional_judged k from (drop from s.now) }
 {
     match walks::walk(s, from) {
-        Verdict::Refused(r) => Verdict::Refused(r),
-        Verdict::Fits(n) => {
+        Err(r) => Err(r),
+        Ok(n) => {
             if n == 0 {
-                return Verdict::Fits(0);
+                return Ok(0);
             }
             match walks::judge(k, n, s, from) {
-                Verdict::Refused(r) => Verdict::Refused(r),
-                Verdict::Fits(_) => Verdict::Fits(n),
+                Err(r) => Err(r),
+                Ok(_) => Ok(n),
             }
         }
     }
@@ -37,19 +33,19 @@ fn judge_optional(k: Kind, s: &[u8], from: usize) -> Verdict
 
 // 3 to 10 of a record whose kind is known.
 fn judge_kind(k: Kind, s: &[u8]) -> Verdict
-    ensures { result ≡ kind_judged (Known k) s.now }
+    ensures { result ≡ kind_judged (Some k) s.now }
 {
     let width = fixed_width(k);
     if s.len() < width + HEAD_WIDTH {
-        return Verdict::Refused(Refusal::TooShort(s.len()));
+        return Err(Refusal::TooShort(s.len()));
     }
     let allowed = allowed_run(s);
     if allowed != s.len() {
-        return Verdict::Refused(Refusal::Byte(allowed));
+        return Err(Refusal::Byte(allowed));
     }
     let broken = first_broken(k, s);
     if broken != field_count(k) {
-        return Verdict::Refused(Refusal::FixedField(start_of(k, broken)));
+        return Err(Refusal::FixedField(start_of(k, broken)));
     }
     judge_optional(k, s, width)
 }
@@ -59,11 +55,11 @@ pub fn judge_record(s: &[u8]) -> Verdict
     ensures { result ≡ judged s.now }
 {
     if MOST_BYTES < s.len() {
-        return Verdict::Refused(Refusal::TooLong);
+        return Err(Refusal::TooLong);
     }
     match kind_of(s) {
-        Kinded::Known(k) => judge_kind(k, s),
-        Kinded::Unknown => Verdict::Refused(Refusal::UnknownKind),
+        Some(k) => judge_kind(k, s),
+        None => Err(Refusal::UnknownKind),
     }
 }
 
@@ -72,13 +68,13 @@ pub fn check(s: &[u8], table: &mut [usize]) -> Checked
     ensures { outcome result table.new ≡ check s.now table.old }
 {
     if table.len() < MOST_FIELDS * ENTRY_WIDTH {
-        return checked_of(Verdict::Refused(Refusal::SmallTable));
+        return checked_of(Err(Refusal::SmallTable));
     }
     match judge_record(s) {
-        Verdict::Refused(r) => checked_of(Verdict::Refused(r)),
-        Verdict::Fits(n) => {
+        Err(r) => checked_of(Err(r)),
+        Ok(n) => {
             walks::fill(s, optional_start(s), n, table);
-            checked_of(Verdict::Fits(n))
+            checked_of(Ok(n))
         }
     }
 }
@@ -88,8 +84,8 @@ fn optional_start(s: &[u8]) -> usize
     ensures { result ≡ optional_start (kind_of s.now) }
 {
     match kind_of(s) {
-        Kinded::Known(k) => fixed_width(k),
-        Kinded::Unknown => 0,
+        Some(k) => fixed_width(k),
+        None => 0,
     }
 }
 
@@ -98,10 +94,10 @@ fn judge_as(name: &[u8], s: &[u8]) -> Verdict
     ensures { result ≡ judged_as name.now s.now }
 {
     if MOST_BYTES < s.len() {
-        return Verdict::Refused(Refusal::TooLong);
+        return Err(Refusal::TooLong);
     }
     if !same(part(s, 0, KIND_WIDTH), name) {
-        return Verdict::Refused(Refusal::UnknownKind);
+        return Err(Refusal::UnknownKind);
     }
     judge_record(s)
 }
@@ -113,11 +109,11 @@ pub fn read_order(s: &[u8]) -> ReadOrder
     let verdict = judge_as(b"B101", s);
     let checked = checked_of(verdict);
     match verdict {
-        Verdict::Refused(_) => ReadOrder {
+        Err(_) => ReadOrder {
             checked,
             order: no_order(),
         },
-        Verdict::Fits(_) => ReadOrder {
+        Ok(_) => ReadOrder {
             checked,
             order: order_of(s),
         },
@@ -131,11 +127,11 @@ pub fn read_delivery(s: &[u8]) -> ReadDelivery
     let verdict = judge_as(b"L101", s);
     let checked = checked_of(verdict);
     match verdict {
-        Verdict::Refused(_) => ReadDelivery {
+        Err(_) => ReadDelivery {
             checked,
             delivery: no_delivery(),
         },
-        Verdict::Fits(_) => ReadDelivery {
+        Ok(_) => ReadDelivery {
             checked,
             delivery: delivery_of(s),
         },
@@ -149,11 +145,11 @@ pub fn read_report(s: &[u8]) -> ReadReport
     let verdict = judge_as(b"M101", s);
     let checked = checked_of(verdict);
     match verdict {
-        Verdict::Refused(_) => ReadReport {
+        Err(_) => ReadReport {
             checked,
             report: no_report(),
         },
-        Verdict::Fits(_) => ReadReport {
+        Ok(_) => ReadReport {
             checked,
             report: report_of(s),
         },

@@ -1,10 +1,9 @@
 -- The number and the place of each refusal of reading (RULES 3.2, 4.1).
-use Rattle.std.specs.Prelude.{ℕ}
+use Rattle.std.specs.Prelude.{ℕ, Err, Ok}
 use Rattle.record.specs.Layout.{most_bytes}
 use Rattle.record.specs.declared.answer.Refusal.{Refusal}
 use Rattle.record.specs.declared.answer.Refusal.TheVariants.{TooLong, UnknownKind, TooShort, Byte, FixedField, NoField, LastField, TooManyFields, Content, Group, SmallTable}
-use Rattle.record.specs.declared.answer.Verdict.{Verdict}
-use Rattle.record.specs.declared.answer.Verdict.TheVariants.{Refused, Fits}
+use Rattle.record.specs.Verdicts.{Verdict}
 use Rattle.record.specs.declared.answer.Checked.{Checked}
 
 unfoldable pub refusal_number : Refusal → ℕ
@@ -35,11 +34,11 @@ refusal_place SmallTable = 0
 
 -- what a refusal says, and what a reading that is done says (RULES 3.1)
 unfoldable pub checked_of : Verdict → Checked
-checked_of (Refused r) = record { answer = refusal_number r; place = refusal_place r; fields = 0 }
-checked_of (Fits n) = record { answer = 0; place = 0; fields = n }
+checked_of (Err r) = record { answer = refusal_number r; place = refusal_place r; fields = 0 }
+checked_of (Ok n) = record { answer = 0; place = 0; fields = n }
 
 -- the first refusal of two stages
 infixr 20 ◌then◌
 unfoldable pub ◌then◌ : Verdict → Verdict → Verdict
-Refused r then b = Refused r
-Fits n then b = b
+Err r then b = Err r
+Ok n then b = b

@@ -1,5 +1,5 @@
 -- The optional fields of a record: their shape, and the two walks over them (RULES 2.1, 4.2).
-use Rattle.std.specs.Prelude.{ℕ, zero, suc, ◌+◌, Bool, not, ◌&&◌, List, [], ◌∷◌, eqb, length, take, drop, get_or}
+use Rattle.std.specs.Prelude.{ℕ, zero, suc, ◌+◌, Bool, not, ◌&&◌, List, [], ◌∷◌, eqb, length, take, drop, get_or, Err, None, Ok, Option, Some}
 use Rattle.std.proofs.Math.Seq.{slice}
 use Rattle.cells.specs.Bytes.{pick, run}
 use Rattle.signs.specs.Class.{star, of_class}
@@ -7,10 +7,7 @@ use Rattle.rules.specs.Number.{number}
 use Rattle.signs.specs.declared.Class.TheVariants.{Digit}
 use Rattle.record.specs.Contents.{content_kept, group_kept}
 use Rattle.record.specs.declared.answer.Refusal.TheVariants.{NoField, LastField, TooManyFields, Content, Group}
-use Rattle.record.specs.declared.answer.Verdict.{Verdict}
-use Rattle.record.specs.declared.answer.Verdict.TheVariants.{Refused, Fits}
-use Rattle.record.specs.declared.fields.Head.{Head}
-use Rattle.record.specs.declared.fields.Head.TheVariants.{Id, Missing}
+use Rattle.record.specs.Verdicts.{Verdict}
 use Rattle.record.specs.declared.layout.Kind.{Kind}
 
 -- the ID of the last field
@@ -22,13 +19,13 @@ abbrev pub head_width : ℕ
 head_width = 5
 
 -- what stands at the front of t, where an optional field should start
-unfoldable pub head_of : List ℕ → Head
-head_of t = pick (star (get_or t 0 0) && of_class Digit 4 4 (slice 1 head_width t)) (Id (number (slice 1 head_width t))) Missing
+unfoldable pub head_of : List ℕ → Option ℕ
+head_of t = pick (star (get_or t 0 0) && of_class Digit 4 4 (slice 1 head_width t)) (Some (number (slice 1 head_width t))) None
 
 -- its ID, 0 where no field stands there
-unfoldable pub id_in : Head → ℕ
-id_in Missing = 0
-id_in (Id id) = id
+unfoldable pub id_in : Option ℕ → ℕ
+id_in None = 0
+id_in (Some id) = id
 
 unfoldable pub id_of : List ℕ → ℕ
 id_of t = id_in (head_of t)
@@ -51,27 +48,27 @@ unfoldable pub after_field : List ℕ → List ℕ
 after_field t = drop (field_width t) t
 
 -- 6 to 8: where a field should start at place p, with t left of the record after n fields; more is said by the fields from this one on
-unfoldable pub on_head : Head → ℕ → ℕ → List ℕ → Verdict → Verdict
-on_head Missing n p t more = Refused (NoField p)
-on_head (Id id) n p t more = pick (eqb id last_id) (pick (eqb (length t) head_width) (Fits n) (Refused (LastField p))) more
+unfoldable pub on_head : Option ℕ → ℕ → ℕ → List ℕ → Verdict → Verdict
+on_head None n p t more = Err (NoField p)
+on_head (Some id) n p t more = pick (eqb id last_id) (pick (eqb (length t) head_width) (Ok n) (Err (LastField p))) more
 
 unfoldable pub at_field : ℕ → ℕ → List ℕ → Verdict → Verdict
-at_field n p t more = pick (eqb (length t) 0) (Refused (LastField p)) (on_head (head_of t) n p t more)
+at_field n p t more = pick (eqb (length t) 0) (Err (LastField p)) (on_head (head_of t) n p t more)
 
 -- the first walk: 6, 7 and 8; room is how many more fields there may be
 unfoldable pub walk : ℕ → ℕ → ℕ → List ℕ → Verdict
-walk zero n p t = at_field n p t (Refused (TooManyFields p))
+walk zero n p t = at_field n p t (Err (TooManyFields p))
 walk (suc room) n p t = at_field n p t (walk room (n + 1) (p + field_width t) (after_field t))
 
 -- the second walk: 9 and then 10 at each of n fields; before is the ID of the field before the first
 unfoldable pub judge : Kind → ℕ → ℕ → ℕ → List ℕ → Verdict
-judge k zero before p t = Fits 0
+judge k zero before p t = Ok 0
 judge k (suc n) before p t =
     pick (content_kept k (id_of t) (content_of t))
     (pick (group_kept before (id_of t) (id_of (after_field t)))
     (judge k n (id_of t) (p + field_width t) (after_field t))
-    (Refused (Group p)))
-    (Refused (Content p))
+    (Err (Group p)))
+    (Err (Content p))
 
 -- an optional field by its ID and content
 pub record Optional : Type 0 where

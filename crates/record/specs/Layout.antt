@@ -1,5 +1,5 @@
 -- The kinds of records and the layout of each, as data (RULES 2.1, 2.2).
-use Rattle.std.specs.Prelude.{ℕ, suc, ◌+◌, List, [], ◌∷◌, ◌++◌, take, drop}
+use Rattle.std.specs.Prelude.{ℕ, suc, ◌+◌, List, [], ◌∷◌, ◌++◌, take, drop, None, Option, Some}
 use Rattle.std.proofs.Math.Seq.{slice}
 use Rattle.cells.specs.Bytes.{pick, bytes, same}
 use Rattle.signs.specs.Class.{of_class}
@@ -12,8 +12,6 @@ use Rattle.rules.specs.declared.rule.Rule.TheVariants.{Free, Of, Padded, Named, 
 use Rattle.record.specs.declared.layout.Field.{Field}
 use Rattle.record.specs.declared.layout.Kind.{Kind}
 use Rattle.record.specs.declared.layout.Kind.TheVariants.{Order, Goods, Closing, Report}
-use Rattle.record.specs.declared.layout.Kinded.{Kinded}
-use Rattle.record.specs.declared.layout.Kinded.TheVariants.{Known, Unknown}
 
 -- the most bytes of a record
 abbrev pub most_bytes : ℕ
@@ -151,12 +149,12 @@ abbrev pub date_start : ℕ
 date_start = 28
 
 -- the kind that the first four bytes name; the date of a delivery tells a closing record from goods (RULES 2.1)
-unfoldable pub kind_of : List ℕ → Kinded
+unfoldable pub kind_of : List ℕ → Option Kind
 kind_of s =
-    pick (same (slice 0 kind_width s) (bytes "B101")) (Known Order)
-    (pick (same (slice 0 kind_width s) (bytes "L101")) (Known (pick (of_class Zero day_width day_width (slice date_start (date_start + day_width) s)) Closing Goods))
-    (pick (same (slice 0 kind_width s) (bytes "M101")) (Known Report)
-    Unknown))
+    pick (same (slice 0 kind_width s) (bytes "B101")) (Some Order)
+    (pick (same (slice 0 kind_width s) (bytes "L101")) (Some (pick (of_class Zero day_width day_width (slice date_start (date_start + day_width) s)) Closing Goods))
+    (pick (same (slice 0 kind_width s) (bytes "M101")) (Some Report)
+    None))
 
 -- the index of the first field that breaks its rule, or the number of fields where none does; the fields stand at the front of s
 unfoldable pub first_broken : List Field → List ℕ → ℕ

@@ -1,3 +1,4 @@
+pub mod Verdicts
 pub mod Layout
 pub mod Contents
 pub mod Answers

@@ -27,12 +27,8 @@ pub enum Refusal {
     SmallTable,
 }
 
-// A refusal, or the number of optional fields before *9999.
-#[derive(Clone, Copy)]
-pub enum Verdict {
-    Refused(Refusal),
-    Fits(usize),
-}
+// The number of optional fields before *9999, or a refusal.
+pub type Verdict = Result<usize, Refusal>;
 
 // The answer number and place of document 01, and the number of optional fields.
 #[repr(C)]
@@ -102,12 +98,12 @@ pub fn checked_of(v: Verdict) -> Checked
     ensures { result ≡ checked_of v }
 {
     match v {
-        Verdict::Refused(r) => Checked {
+        Err(r) => Checked {
             answer: refusal_number(r),
             place: refusal_place(r),
             fields: 0,
         },
-        Verdict::Fits(n) => Checked {
+        Ok(n) => Checked {
             answer: 0,
             place: 0,
             fields: n,

@@ -6,10 +6,3 @@ pub const LAST_ID: usize = 9999;
 pub const HEAD_WIDTH: usize = 5;
 // A table has three numbers an entry: ID, place of the content, length of the content.
 pub const ENTRY_WIDTH: usize = 3;
-
-// What stands where an optional field should start: its ID, or no field.
-#[derive(Clone, Copy)]
-pub enum Head {
-    Id(usize),
-    Missing,
-}

@@ -49,13 +49,6 @@ pub enum Kind {
     Report,
 }
 
-// The kind that a record's first bytes name, if any.
-#[derive(Clone, Copy)]
-pub enum Kinded {
-    Known(Kind),
-    Unknown,
-}
-
 const NO_FIELD: Field = Field {
     size: 0,
     rule: Rule::Free,
@@ -344,12 +337,12 @@ pub fn first_broken(k: Kind, s: &[u8]) -> usize
 }
 
 // The kind that the first four bytes name; an L101 dated eight zeros is a closing record.
-pub fn kind_of(s: &[u8]) -> Kinded
+pub fn kind_of(s: &[u8]) -> Option<Kind>
     ensures { result ≡ kind_of s.now }
 {
     let name = part(s, 0, KIND_WIDTH);
     if same(name, b"B101") {
-        return Kinded::Known(Kind::Order);
+        return Some(Kind::Order);
     }
     if same(name, b"L101") {
         if of_class(
@@ -358,12 +351,12 @@ pub fn kind_of(s: &[u8]) -> Kinded
             Day::WIDTH,
             part(s, DATE_START, DATE_START + Day::WIDTH),
         ) {
-            return Kinded::Known(Kind::Closing);
+            return Some(Kind::Closing);
         }
-        return Kinded::Known(Kind::Goods);
+        return Some(Kind::Goods);
     }
     if same(name, b"M101") {
-        return Kinded::Known(Kind::Report);
+        return Some(Kind::Report);
     }
-    Kinded::Unknown
+    None
 }

@@ -21,7 +21,7 @@ use Rattle.entry.proofs.Kept.{Changed, other_line, same_key, arrived_changed, re
 use Rattle.book.specs.Lent.{Lent, used_lines, used_slips, line_room, slip_room, find_line, find_slip}
 use Rattle.book.specs.Booking.{slip_fields, mark_in, message_in, date_in}
 use Rattle.book.proofs.Fields.{report_date}
-use Rattle.cells.specs.declared.search.Found.TheVariants.{At, Nothing}
+use Rattle.std.specs.Prelude.{None, Some}
 use Rattle.cells.proofs.Searches.{none_at, sum_same, sum_more, sum_none}
 use Rattle.book.proofs.Sounds.{sound_so}
 use Rattle.balance.proofs.Found.{line_used}
@@ -31,17 +31,17 @@ use Rattle.save.specs.Entries.{reference_at, slip_number_at, line_fields, fields
 use Rattle.restored.proofs.Ordered.{booked_on, Ordered}
 
 -- no line is found with a key: it is no used line's
-line_is_new : (b : Lent) (key : List ℕ) → find_line b key ≡ Nothing → (x : ℕ) → x < used_lines b → same (key_at b.lines x) key ≡ false
+line_is_new : (b : Lent) (key : List ℕ) → find_line b key ≡ None → (x : ℕ) → x < used_lines b → same (key_at b.lines x) key ≡ false
 unfolding find_line key_is
 line_is_new b key e x h = none_at (key_is b.lines key) (used_lines b) 0 x e (omega arith) (omega arith)
 
 -- no slip is found with a key: it is no used slip's
-slip_is_new : (b : Lent) (key : List ℕ) → find_slip b key ≡ Nothing → (x : ℕ) → x < used_slips b → same (slip_key_at b.slips x) key ≡ false
+slip_is_new : (b : Lent) (key : List ℕ) → find_slip b key ≡ None → (x : ℕ) → x < used_slips b → same (slip_key_at b.slips x) key ≡ false
 unfolding find_slip slip_is
 slip_is_new b key e x h = none_at (slip_is b.slips key) (used_slips b) 0 x e (omega arith) (omega arith)
 
 -- a report is entered: what it says is set in its line
-module _ (b : Lent) (key s : List ℕ) (n i : ℕ) (o : Ordered b) (fit : Fitting Report s n) (f : find_line b key ≡ At i) where
+module _ (b : Lent) (key s : List ℕ) (n i : ℕ) (o : Ordered b) (fit : Fitting Report s n) (f : find_line b key ≡ Some i) where
   pub report_ordered : Ordered (with_lines b (put_report b.lines i (mark_in s) (message_in s) (date_in s)))
   unfolding used_lines used_slips with_report
   report_ordered =
@@ -64,7 +64,7 @@ module _ (b : Lent) (key s : List ℕ) (n i : ℕ) (o : Ordered b) (fit : Fittin
 
 -- an order is entered: a line is added
 module _ (b : Lent) (key article : List ℕ) (copies : Copies) (o : Ordered b) (wide : length key ≡ key_width) (whole : length (key ++ article) ≡ ordered_at) (least : 1 ≤ copies.0) (most : copies.0 ≤ most_copies) where
-  pub order_ordered : find_line b key ≡ Nothing → used_lines b < line_room b → fields_kept line_fields reference_at (key ++ article) ≡ true → Ordered (more_line b (key ++ article) copies)
+  pub order_ordered : find_line b key ≡ None → used_lines b < line_room b → fields_kept line_fields reference_at (key ++ article) ≡ true → Ordered (more_line b (key ++ article) copies)
   unfolding new_line booked_on
   order_ordered f room rules =
       let n : ℕ = used_lines b in
@@ -116,7 +116,7 @@ module _ (ss : List ℕ) (m : ℕ) (key : List ℕ) (i : ℕ) (copies : Copies) 
 
 -- a delivery is entered: a slip is added, and its copies to its line
 module _ (b : Lent) (key slip : List ℕ) (copies : Copies) (i : ℕ) (o : Ordered b) (wide : length slip ≡ slip_key_width) (least : 1 ≤ copies.0) (few : copies.0 ≤ most_copies) where
-  pub goods_ordered : find_slip b slip ≡ Nothing → find_line b key ≡ At i → (line_at b.lines i).arrived.0 + copies.0 ≤ most_arrived → used_slips b < slip_room b
+  pub goods_ordered : find_slip b slip ≡ None → find_line b key ≡ Some i → (line_at b.lines i).arrived.0 + copies.0 ≤ most_arrived → used_slips b < slip_room b
       → fields_kept slip_fields slip_number_at slip ≡ true → parties_agree slip key ≡ true
       → Ordered (more_slip (with_lines b (put_arrived b.lines i (with_arrivals copies (line_at b.lines i)).arrived)) slip i copies)
   unfolding used_lines used_slips slip_room with_arrivals

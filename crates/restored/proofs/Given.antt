@@ -7,14 +7,14 @@ use Rattle.record.specs.declared.layout.Kind.{Kind}
 use Rattle.reader.proofs.Fitting.{Fitting, fitting}
 use Rattle.book.specs.Lent.{Lent}
 use Rattle.book.specs.Booking.{fit_judged, lent_after}
-use Rattle.book.specs.declared.answer.Verdict.TheVariants.{Fits}
+use Rattle.std.specs.Prelude.{Ok}
 use Rattle.balance.specs.Met.{Met}
 use Rattle.balance.specs.Calls.{book_call}
 use Rattle.balance.specs.Demand3.{Given, give, give_all}
 use Rattle.balance.proofs.Accepted.{Refuses, Accepts, refused_or_accepted}
 
 -- what a record that fits keeps when it is entered
-module _ (P : Lent → Type 0) (entered : (k : Kind) (s roster : List ℕ) (b : Lent) (i n : ℕ) → Fitting k s n → fit_judged k s roster b ≡ Fits i → P b → P (lent_after k s b i)) where
+module _ (P : Lent → Type 0) (entered : (k : Kind) (s roster : List ℕ) (b : Lent) (i n : ℕ) → Fitting k s n → fit_judged k s roster b ≡ Ok i → P b → P (lent_after k s b i)) where
   -- one record keeps, refused or accepted
   one_given : (g : Given) (s : Met) → P g.book → P (give g s).book
   unfolding give

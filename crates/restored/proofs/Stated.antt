@@ -22,7 +22,7 @@ use Rattle.ledger.specs.Book.{Key, school_of, of_school, Report, Line, Slip, Boo
 use Rattle.ledger.specs.Booking.{Fit, order, goods, report, line_at, slip_at, done, first_of, most_arrived, open_of, tests, judge, arrive, tell, change_line, enter}
 use Rattle.ledger.specs.History.{bookings}
 use Rattle.ledger.proofs.Gives.{Gives, gives_more}
-use Rattle.cells.specs.declared.search.Found.TheVariants.{At}
+use Rattle.std.specs.Prelude.{Some}
 use Rattle.balance.specs.Told.{listed}
 use Rattle.balance.proofs.Listings.{listed_length, listed_same, listed_more, none_listed, first_listed, change_listed}
 use Rattle.restored.specs.History.{orders_of, deliveries_of, report_on, reports_of, history_of}
@@ -107,7 +107,7 @@ module _ (rooms : Rooms) (n m : ℕ) (line : ℕ → Line) (slip : ℕ → Slip)
   report_book k = record { lines = listed (told_by k) n 0; slips = listed slip m 0 }
 
   -- each line is the first with its key
-  own_line : (i : ℕ) → i < n → first_from (λ x. same (line i).key (line x).key) n 0 ≡ At i
+  own_line : (i : ℕ) → i < n → first_from (λ x. same (line i).key (line x).key) n 0 ≡ Some i
   own_line i h =
       first_is (λ x. same (line i).key (line x).key) n 0 i (omega arith) (omega arith) (same_refl (line i).key) (λ x a c. s.line_new x i c h)
 
@@ -131,7 +131,7 @@ module _ (rooms : Rooms) (n m : ℕ) (line : ℕ → Line) (slip : ℕ → Slip)
       (unfold enter sum_from in λ x. record { lines = sym (listed_next (arrived_by 0) k) x; slips = [] })
 
   -- a slip finds its line
-  line_named : (j : ℕ) → j < m → first_from (λ x. same (slip j).line (line x).key) n 0 ≡ At (at j)
+  line_named : (j : ℕ) → j < m → first_from (λ x. same (slip j).line (line x).key) n 0 ≡ Some (at j)
   line_named j h = ap (λ (k : Key). first_from (λ x. same k (line x).key) n 0) (s.names j h) ∙ own_line (at j) (s.used j h)
 
   -- a delivery is accepted

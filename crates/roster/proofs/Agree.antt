@@ -10,8 +10,7 @@ use lib.ListN.{length, get_or, take, drop, length-append}
 use lib.Seq.{slice, take_at, get_or-append-add, take-append-add, drop-append-add}
 use Rattle.cells.specs.Bytes.{pick, same}
 use Rattle.cells.specs.Little.{le_at, le_bytes}
-use Rattle.cells.specs.declared.search.Found.{Found}
-use Rattle.cells.specs.declared.search.Found.TheVariants.{At, Nothing}
+use Rattle.std.specs.Prelude.{None, Option, Some}
 use Rattle.cells.proofs.Bools.{and_left, and_right}
 use Rattle.cells.proofs.Lists.{same_true, same_joined}
 use Rattle.cells.proofs.Numbers.{le_back}
@@ -19,7 +18,6 @@ use Rattle.cells.proofs.Searches.{found_at, first_same}
 use Rattle.roster.specs.Roster.{most_schools, entries, roster_sound, account_at, account_is, find_account, ceiling_at, standing_at, standing}
 use Rattle.roster.specs.Schools.{no_school, is_of, is_account, find_school, ceiling_of, standing_among, standing_of, not_told, told_of, account_told, bytes_of_one, bytes_of, Formed, AllFormed}
 use Rattle.roster.specs.Agreement.{Agreement}
-use Rattle.roster.specs.declared.Standing.TheVariants.{Off}
 use Rattle.roster.specs.declared.schools.School.{School}
 
 -- past a list that stands in front: a number, and a part
@@ -99,10 +97,10 @@ finds_same ss address qualifier g e =
     rw (all_entries ss g) (first_same _ _ (length ss) 0 (λ j a b. is_same ss address qualifier g e j (omega arith)))
 
 -- an account that is found has the school's ceiling, and one that is not found stands on neither
-standing_of_law : (ss : List School) (address qualifier : List ℕ) → AllFormed ss → (f : Found) → find_school ss address qualifier ≡ f → standing_at (bytes_of ss) f ≡ standing_among ss f
+standing_of_law : (ss : List School) (address qualifier : List ℕ) → AllFormed ss → (f : Option ℕ) → find_school ss address qualifier ≡ f → standing_at (bytes_of ss) f ≡ standing_among ss f
 unfolding standing_at standing_among find_school ceiling_at ceiling_of
-standing_of_law ss address qualifier g Nothing e = refl
-standing_of_law ss address qualifier g (At i) e =
+standing_of_law ss address qualifier g None e = refl
+standing_of_law ss address qualifier g (Some i) e =
     let h = found_at (is_account ss address qualifier) (length ss) 0 i e in
     rw (ceiling_same ss i g (omega (arith, h.1))) refl
 
@@ -119,7 +117,7 @@ roster_same ss g =
     rw (e, all_entries ss g) refl
 
 -- a school that has an account has its address and its qualifier, so their lengths are 10 and 2
-found_lengths : (ss : List School) (address qualifier : List ℕ) → AllFormed ss → (i : ℕ) → find_school ss address qualifier ≡ At i → (length address ≡ 10) × (length qualifier ≡ 2)
+found_lengths : (ss : List School) (address qualifier : List ℕ) → AllFormed ss → (i : ℕ) → find_school ss address qualifier ≡ Some i → (length address ≡ 10) × (length qualifier ≡ 2)
 unfolding find_school is_account is_of
 found_lengths ss address qualifier g i e =
     let h = found_at (is_account ss address qualifier) (length ss) 0 i e in
@@ -130,14 +128,14 @@ found_lengths ss address qualifier g i e =
     (rw (← a) formed.address_is, rw (← q) formed.qualifier_is)
 
 -- so another length is on no roster
-other_length : (ss : List School) (address qualifier : List ℕ) → AllFormed ss → (length address ≡ 10 → ⊥) ⊎ (length qualifier ≡ 2 → ⊥) → standing_of ss address qualifier ≡ Off
+other_length : (ss : List School) (address qualifier : List ℕ) → AllFormed ss → (length address ≡ 10 → ⊥) ⊎ (length qualifier ≡ 2 → ⊥) → standing_of ss address qualifier ≡ None
 unfolding standing_of standing_among
 other_length ss address qualifier g other = go (find_school ss address qualifier) refl other
   where
-    go : (f : Found) → find_school ss address qualifier ≡ f → (length address ≡ 10 → ⊥) ⊎ (length qualifier ≡ 2 → ⊥) → standing_among ss f ≡ Off
-    go Nothing e other = refl
-    go (At i) e (inl h) = absurd (h (found_lengths ss address qualifier g i e).0)
-    go (At i) e (inr h) = absurd (h (found_lengths ss address qualifier g i e).1)
+    go : (f : Option ℕ) → find_school ss address qualifier ≡ f → (length address ≡ 10 → ⊥) ⊎ (length qualifier ≡ 2 → ⊥) → standing_among ss f ≡ None
+    go None e other = refl
+    go (Some i) e (inl h) = absurd (h (found_lengths ss address qualifier g i e).0)
+    go (Some i) e (inr h) = absurd (h (found_lengths ss address qualifier g i e).1)
 
 -- what is told of an account, by the bytes
 telling_same : (ss : List School) (address qualifier : List ℕ) → AllFormed ss → length address ≡ 10

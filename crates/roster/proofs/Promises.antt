@@ -4,12 +4,12 @@ use mathlib.Core.List.{List}
 use Prim.Native.Nat.{ℕ}
 use Rattle.roster.specs.Roster.{standing}
 use Rattle.roster.specs.Schools.{account_told}
-use Rattle.roster.specs.declared.Standing.{Standing}
+use Rattle.std.specs.Prelude.{Option}
 use Rattle.roster.specs.declared.schools.School.{School}
 use Rattle.roster.specs.declared.schools.AccountTold.{AccountTold}
 
 -- `roster::standing_on`: what the roster says of an account is fixed by both
-pub standing_unique : (roster account : List ℕ) (says says' : Standing) → says ≡ standing roster account → says' ≡ standing roster account → says ≡ says'
+pub standing_unique : (roster account : List ℕ) (says says' : Option ℕ) → says ≡ standing roster account → says' ≡ standing roster account → says ≡ says'
 standing_unique roster account says says' p q = p ∙ sym q
 
 -- `wq_account`: so are the answer, the place and the ceiling, by the schools, the address and the qualifier; nothing that is lent can be changed

@@ -5,8 +5,7 @@ use Prim.Native.Nat.{ℕ, ◌≤◌, ◌<◌}
 use native.Mathlib.Omega.{arith}
 use lib.ListN.{length}
 use borrow.Author.Tests.{lt-ltb, le-ltb, le-leb, lt-leb}
-use Rattle.cells.specs.declared.search.Found.{Found}
-use Rattle.cells.specs.declared.search.Found.TheVariants.{At, Nothing}
+use Rattle.std.specs.Prelude.{None, Option, Some}
 use Rattle.cells.proofs.Searches.{found_at}
 use Rattle.roster.specs.Roster.{most_schools}
 use Rattle.roster.specs.Schools.{is_account, find_school, place_in, ceiling_of, standing_among, standing_of, not_told, told_of, account_told, told_at}
@@ -28,11 +27,11 @@ module _ (n i ceiling : ℕ) where
 
 -- what is found among the schools, and its place and ceiling, tell the same
 module _ (ss : List School) (address qualifier : List ℕ) where
-  told_found : (f : Found) → find_school ss address qualifier ≡ f
+  told_found : (f : Option ℕ) → find_school ss address qualifier ≡ f
       → told_at (length ss) (place_in (length ss) f) (ceiling_of ss (place_in (length ss) f)) ≡ account_told ss address qualifier
   unfolding told_at place_in account_told standing_of standing_among find_school
-  told_found Nothing e = rw (le-ltb (length ss) (length ss) (omega arith), e) refl
-  told_found (At i) e =
+  told_found None e = rw (le-ltb (length ss) (length ss) (omega arith), e) refl
+  told_found (Some i) e =
       let h = found_at (is_account ss address qualifier) (length ss) 0 i e in
       let l : i < length ss = omega (arith, h.1) in
       rw (lt-ltb i (length ss) l, e) refl

@@ -1,12 +1,10 @@
 -- Cases of the roster: which entry speaks, sizes, and what is told of an account in both forms.
-use Rattle.std.specs.Prelude.{ℕ, ◌*◌, Bool, true, false, List, [], ◌∷◌, ◌++◌, replicate, take}
+use Rattle.std.specs.Prelude.{ℕ, ◌*◌, Bool, true, false, List, [], ◌∷◌, ◌++◌, replicate, take, None, Option, Some}
 use Prim.Native.String.{String}
 use Rattle.cells.specs.Bytes.{bytes}
 use Rattle.cells.specs.Little.{le_bytes}
 use Rattle.roster.specs.Roster.{entry_width, ceiling_width, roster_sound, standing}
 use Rattle.roster.specs.Schools.{account_told}
-use Rattle.roster.specs.declared.Standing.{Standing}
-use Rattle.roster.specs.declared.Standing.TheVariants.{On, Off}
 use Rattle.roster.specs.declared.schools.School.{School}
 use Rattle.roster.specs.declared.schools.AccountTold.{AccountTold}
 
@@ -19,7 +17,7 @@ abbrev pub three : List ℕ
 three = entry "43210     VD" 500 ++ (entry "43211     VD" 70000 ++ entry "43210     VD" 9)
 
 -- an account in its place, at the end, twice, under another qualifier, one byte off, cut short, and on no roster at all
-unfoldable pub standings : List Standing
+unfoldable pub standings : List (Option ℕ)
 standings =
     standing three (bytes "43211     VD")
     ∷ standing (entry "43211     VD" 7 ++ three) (bytes "43210     VD")
@@ -31,8 +29,8 @@ standings =
     ∷ standing (entry "43210     VD" 4294967295) (bytes "43210     VD")
     ∷ []
 
-unfoldable pub standings_are : List Standing
-standings_are = On 70000 ∷ On 500 ∷ On 500 ∷ Off ∷ Off ∷ Off ∷ Off ∷ On 4294967295 ∷ []
+unfoldable pub standings_are : List (Option ℕ)
+standings_are = Some 70000 ∷ Some 500 ∷ Some 500 ∷ None ∷ None ∷ None ∷ None ∷ Some 4294967295 ∷ []
 
 -- sizes: none, one, 64 and 65 entries, and one byte less and more than whole entries
 unfoldable pub sizes : List Bool

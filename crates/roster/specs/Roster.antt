@@ -1,13 +1,9 @@
 -- The roster in lent bytes (RULES 6.5): whole entries, at most 64; the first entry with an account speaks for it.
-use Rattle.std.specs.Prelude.{ℕ, ◌+◌, ◌*◌, ◌/◌, ◌%◌, Bool, ◌&&◌, List, eqb, leb, length}
+use Rattle.std.specs.Prelude.{ℕ, ◌+◌, ◌*◌, ◌/◌, ◌%◌, Bool, ◌&&◌, List, eqb, leb, length, None, Option, Some}
 use Rattle.std.proofs.Math.Seq.{slice}
 use Rattle.cells.specs.Bytes.{same}
 use Rattle.cells.specs.Little.{le_at}
 use Rattle.cells.specs.Search.{first_from}
-use Rattle.cells.specs.declared.search.Found.{Found}
-use Rattle.cells.specs.declared.search.Found.TheVariants.{At, Nothing}
-use Rattle.roster.specs.declared.Standing.{Standing}
-use Rattle.roster.specs.declared.Standing.TheVariants.{On, Off}
 
 -- an entry is 16 bytes: address 10, qualifier 2, ceiling 4; the first two are the account
 abbrev pub entry_width : ℕ
@@ -53,14 +49,14 @@ unfoldable pub ceiling_at : List ℕ → ℕ → ℕ
 ceiling_at roster i = le_at roster (entry_width * i + account_width) ceiling_width
 
 -- the first entry with an account
-unfoldable pub find_account : List ℕ → List ℕ → Found
+unfoldable pub find_account : List ℕ → List ℕ → Option ℕ
 find_account roster account = first_from (account_is roster account) (entries roster) 0
 
 -- an entry that is found has a ceiling; where none is, the account is not on the roster
-unfoldable pub standing_at : List ℕ → Found → Standing
-standing_at roster Nothing = Off
-standing_at roster (At i) = On (ceiling_at roster i)
+unfoldable pub standing_at : List ℕ → Option ℕ → Option ℕ
+standing_at roster None = None
+standing_at roster (Some i) = Some (ceiling_at roster i)
 
 -- what the roster says of an account
-unfoldable pub standing : List ℕ → List ℕ → Standing
+unfoldable pub standing : List ℕ → List ℕ → Option ℕ
 standing roster account = standing_at roster (find_account roster account)

@@ -1,13 +1,9 @@
 -- The roster as a list of schools, what is told of an account (RULES 6.5, 8), and the bytes of a school.
-use Rattle.std.specs.Prelude.{ℕ, ◌<◌, ◌^◌, ◌≡◌, Bool, ◌&&◌, List, [], ◌∷◌, ◌++◌, leb, ltb, length, get_or}
+use Rattle.std.specs.Prelude.{ℕ, ◌<◌, ◌^◌, ◌≡◌, Bool, ◌&&◌, List, [], ◌∷◌, ◌++◌, leb, ltb, length, get_or, None, Option, Some}
 use Rattle.cells.specs.Bytes.{pick, same}
 use Rattle.cells.specs.Little.{le_bytes}
 use Rattle.cells.specs.Search.{first_from}
-use Rattle.cells.specs.declared.search.Found.{Found}
-use Rattle.cells.specs.declared.search.Found.TheVariants.{At, Nothing}
 use Rattle.roster.specs.Roster.{address_width, qualifier_width, ceiling_width, most_schools}
-use Rattle.roster.specs.declared.Standing.{Standing}
-use Rattle.roster.specs.declared.Standing.TheVariants.{On, Off}
 use Rattle.roster.specs.declared.schools.School.{School}
 use Rattle.roster.specs.declared.schools.AccountTold.{AccountTold}
 
@@ -23,33 +19,33 @@ unfoldable pub is_account : List School → List ℕ → List ℕ → ℕ → Bo
 is_account schools address qualifier i = is_of (get_or schools i no_school) address qualifier
 
 -- the first school with an account
-unfoldable pub find_school : List School → List ℕ → List ℕ → Found
+unfoldable pub find_school : List School → List ℕ → List ℕ → Option ℕ
 find_school schools address qualifier = first_from (is_account schools address qualifier) (length schools) 0
 
 -- what is found of n places, as one number: the place, or n where there is none
-unfoldable pub place_in : ℕ → Found → ℕ
-place_in n Nothing = n
-place_in n (At i) = i
+unfoldable pub place_in : ℕ → Option ℕ → ℕ
+place_in n None = n
+place_in n (Some i) = i
 
 -- the ceiling of the school with an index, 0 past the last
 unfoldable pub ceiling_of : List School → ℕ → ℕ
 ceiling_of schools i = (get_or schools i no_school).ceiling
 
 -- what the schools say of an account
-unfoldable pub standing_among : List School → Found → Standing
-standing_among schools Nothing = Off
-standing_among schools (At i) = On (ceiling_of schools i)
+unfoldable pub standing_among : List School → Option ℕ → Option ℕ
+standing_among schools None = None
+standing_among schools (Some i) = Some (ceiling_of schools i)
 
-unfoldable pub standing_of : List School → List ℕ → List ℕ → Standing
+unfoldable pub standing_of : List School → List ℕ → List ℕ → Option ℕ
 standing_of schools address qualifier = standing_among schools (find_school schools address qualifier)
 
 -- a refusal has no ceiling
 unfoldable pub not_told : ℕ → AccountTold
 not_told number = record { answer = number; place = 0; ceiling = 0 }
 
-unfoldable pub told_of : Standing → AccountTold
-told_of (On ceiling) = record { answer = 0; place = 0; ceiling = ceiling }
-told_of Off = not_told 24
+unfoldable pub told_of : Option ℕ → AccountTold
+told_of (Some ceiling) = record { answer = 0; place = 0; ceiling = ceiling }
+told_of None = not_told 24
 
 -- what is told of an account: 20 first
 unfoldable pub account_told : List School → List ℕ → List ℕ → AccountTold
@@ -57,7 +53,7 @@ account_told schools address qualifier = pick (leb (length schools) most_schools
 
 -- the same by the number of schools, the place that was found among them, and the ceiling there
 unfoldable pub told_at : ℕ → ℕ → ℕ → AccountTold
-told_at n i ceiling = pick (leb n most_schools) (pick (ltb i n) (told_of (On ceiling)) (told_of Off)) (not_told 20)
+told_at n i ceiling = pick (leb n most_schools) (pick (ltb i n) (told_of (Some ceiling)) (told_of None)) (not_told 20)
 
 -- the 16 bytes of a school
 unfoldable pub bytes_of_one : School → List ℕ

@@ -8,7 +8,6 @@ pub mod schools;
 
 use cells::little::get4;
 use cells::same_wide;
-use cells::search::Found;
 
 // An entry: address 10, qualifier 2, ceiling 4. The first two are the account.
 pub const ENTRY_WIDTH: usize = 16;
@@ -16,13 +15,6 @@ pub const ENTRY_WIDTH: usize = 16;
 pub const ACCOUNT_WIDTH: usize = 12;
 
 pub const MOST_SCHOOLS: usize = 64;
-
-// What the roster says of an account: its ceiling, or that it is not on it.
-#[derive(Clone, Copy)]
-pub enum Standing {
-    On(u64),
-    Off,
-}
 
 // Whether these bytes are a roster: whole entries, at most 64.
 pub fn is_roster(roster: &[u8]) -> bool
@@ -42,26 +34,26 @@ fn account_is(roster: &[u8], i: usize, account: &[u8]) -> bool
 }
 
 // The first entry with an account.
-fn find_account(roster: &[u8], account: &[u8]) -> Found
+fn find_account(roster: &[u8], account: &[u8]) -> Option<usize>
     ensures { result ≡ find_account roster.now account.now }
 {
     let n = roster.len() / ENTRY_WIDTH;
     let mut i: usize = 0;
     while i < n {
         if account_is(roster, i, account) {
-            return Found::At(i);
+            return Some(i);
         }
         i += 1;
     }
-    Found::Nothing
+    None
 }
 
 // What the roster says of an account.
-pub fn standing_on(roster: &[u8], account: &[u8]) -> Standing
+pub fn standing_on(roster: &[u8], account: &[u8]) -> Option<u64>
     ensures { result ≡ standing roster.now account.now }
 {
     match find_account(roster, account) {
-        Found::Nothing => Standing::Off,
-        Found::At(i) => Standing::On(get4(roster, ENTRY_WIDTH * i + ACCOUNT_WIDTH)),
+        None => None,
+        Some(i) => Some(get4(roster, ENTRY_WIDTH * i + ACCOUNT_WIDTH)),
     }
 }

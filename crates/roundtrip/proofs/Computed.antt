@@ -19,7 +19,7 @@ use Rattle.record.specs.Contents.{no_member, contents, is_in, rule_in, content_r
 use Rattle.record.specs.Samples.{X, Y, Z, with}
 use Rattle.record.specs.Edges.{C}
 use Rattle.record.specs.declared.layout.Kind.TheVariants.{Goods}
-use Rattle.record.specs.declared.layout.Kinded.TheVariants.{Known}
+use Rattle.std.specs.Prelude.{Some}
 use Rattle.writing.specs.Digits.{digits_of}
 use Rattle.writing.specs.Write.{field_text, optional_text, record_text}
 use Rattle.roundtrip.specs.Record.{Parts, fixed_part, text_of, fixed_kept, optional_kept, MakesRecord}
@@ -65,7 +65,7 @@ pub record Computed : Type 0 where
   pub unassigned : None (fixed_only (order_fields (bytes "A-17" ++ (129 ∷ bytes "     ")) "9783442756841"))
 
 -- by its clauses, each of which computes
-makes : (r : Parts) → kind_of (fixed_part r) ≡ Known r.kind → fixed_kept (layout r.kind) r.fixed ≡ true
+makes : (r : Parts) → kind_of (fixed_part r) ≡ Some r.kind → fixed_kept (layout r.kind) r.fixed ≡ true
     → optional_kept r.kind no_member r.optional ≡ true → leb (length r.optional) most_fields ≡ true → leb (length (text_of r)) most_bytes ≡ true
     → all (belongs Allowed) (text_of r) ≡ true → MakesRecord r
 makes r n f o m l a = record {

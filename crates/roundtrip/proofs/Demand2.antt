@@ -17,8 +17,8 @@ use Rattle.record.specs.Answers.{checked_of}
 use Rattle.record.specs.Values.{order_of, delivery_of, report_of}
 use Rattle.record.specs.Fields.{Optional}
 use Rattle.record.specs.Read.{judged, entry_width, check, judged_as, order_from, delivery_from, report_from, read_order, read_delivery, read_report}
-use Rattle.record.specs.declared.answer.Verdict.{Verdict}
-use Rattle.record.specs.declared.answer.Verdict.TheVariants.{Refused, Fits}
+use Rattle.record.specs.Verdicts.{Verdict}
+use Rattle.std.specs.Prelude.{Err, Ok}
 use Rattle.record.specs.declared.answer.Checked.{Checked}
 use Rattle.record.specs.declared.answer.ReadOrder.{ReadOrder}
 use Rattle.record.specs.declared.answer.ReadDelivery.{ReadDelivery}
@@ -49,21 +49,21 @@ demand2 = record {
 }
 
 -- a verdict that is answered as one that fits is that one
-checked_same : (v : Verdict) (n : ℕ) → checked_of v ≡ checked_of (Fits n) → v ≡ Fits n
+checked_same : (v : Verdict) (n : ℕ) → checked_of v ≡ checked_of (Ok n) → v ≡ Ok n
 unfolding checked_of
 checked_same v n e =
     let d = verdict_fits v (ap (λ (c : Checked). c.answer) e) in
-    d.1 ∙ ap (λ (c : Checked). Fits c.fields) (ap checked_of (sym d.1) ∙ e)
+    d.1 ∙ ap (λ (c : Checked). Ok c.fields) (ap checked_of (sym d.1) ∙ e)
 
 -- so a text in which a check with any large table finds some fields fits with as many
-pub tabled_fits : (s : List ℕ) (fields : List Optional) → Tabled s fields → judged s ≡ Fits (length fields)
+pub tabled_fits : (s : List ℕ) (fields : List Optional) → Tabled s fields → judged s ≡ Ok (length fields)
 unfolding check
 tabled_fits s fields t =
     let lent : List ℕ = replicate (most_fields * entry_width) 0 in
     checked_same (judged s) (length fields) (t.reads lent (omega arith))
 
 -- a text that fits and begins with a kind's name is read as that kind
-named : (name text : List ℕ) (n : ℕ) → judged text ≡ Fits n → slice 0 4 text ≡ name → judged_as name text ≡ Fits n
+named : (name text : List ℕ) (n : ℕ) → judged text ≡ Ok n → slice 0 4 text ≡ name → judged_as name text ≡ Ok n
 named name text n e h = as_named name text (fits_long text n e) (rw h (same_refl name)) ∙ e
 
 -- what reads back, with its fixed part in front: the rest of it, and that each byte of the fixed part is allowed
@@ -76,8 +76,8 @@ module _ (fixed table : List ℕ) (count : ℕ) (contents text : List ℕ) (b : 
   in_front = sym (take-append-drop (length fixed) text) ∙ ap (λ (l : List ℕ). l ++ drop (length fixed) text) b.same_fixed
 
   -- it fits with as many optional fields as were given
-  fits : judged text ≡ Fits count
-  fits = tabled_fits text (optional_of contents (entries count table)) b.fields_are_same ∙ ap Fits b.as_many
+  fits : judged text ≡ Ok count
+  fits = tabled_fits text (optional_of contents (entries count table)) b.fields_are_same ∙ ap Ok b.as_many
 
   fixed_allowed : all (belongs Allowed) fixed ≡ true
   fixed_allowed =
@@ -86,15 +86,15 @@ module _ (fixed table : List ℕ) (count : ℕ) (contents text : List ℕ) (b : 
       ap (all (belongs Allowed)) (sym b.same_fixed) ∙ all_take (belongs Allowed) (length fixed) text a
 
 -- the typed record that is read where a record fits
-order_read : (s : List ℕ) (n : ℕ) → judged_as (bytes "B101") s ≡ Fits n → read_order s ≡ record { checked = checked_of (Fits n); order = order_of s }
+order_read : (s : List ℕ) (n : ℕ) → judged_as (bytes "B101") s ≡ Ok n → read_order s ≡ record { checked = checked_of (Ok n); order = order_of s }
 unfolding read_order order_from
 order_read s n e = rw e
 
-delivery_read : (s : List ℕ) (n : ℕ) → judged_as (bytes "L101") s ≡ Fits n → read_delivery s ≡ record { checked = checked_of (Fits n); delivery = delivery_of s }
+delivery_read : (s : List ℕ) (n : ℕ) → judged_as (bytes "L101") s ≡ Ok n → read_delivery s ≡ record { checked = checked_of (Ok n); delivery = delivery_of s }
 unfolding read_delivery delivery_from
 delivery_read s n e = rw e
 
-report_read : (s : List ℕ) (n : ℕ) → judged_as (bytes "M101") s ≡ Fits n → read_report s ≡ record { checked = checked_of (Fits n); report = report_of s }
+report_read : (s : List ℕ) (n : ℕ) → judged_as (bytes "M101") s ≡ Ok n → read_report s ≡ record { checked = checked_of (Ok n); report = report_of s }
 unfolding read_report report_from
 report_read s n e = rw e
 
@@ -107,7 +107,7 @@ module _ (table : List ℕ) (count : ℕ) (contents out : List ℕ) where
       let f = in_front (order_bytes o) table count contents _ b in
       let a = named (bytes "B101") _ count (fits (order_bytes o) table count contents _ b) (ap (slice 0 4) f) in
       let v = ap order_of f ∙ order_values o _ h (fixed_allowed (order_bytes o) table count contents _ b) in
-      record { reads = order_read _ count a ∙ ap (λ (x : Order). record { checked = checked_of (Fits count); order = x }) v; fields = b.fields_are_same }
+      record { reads = order_read _ count a ∙ ap (λ (x : Order). record { checked = checked_of (Ok count); order = x }) v; fields = b.fields_are_same }
 
   pub delivery_reads_back : (d : Delivery) → DeliveryShaped d → (write_call (delivery_bytes d) table count contents out).said.answer ≡ 0 → DeliveryReadsBack d table count contents out
   unfolding delivery_bytes delivery_fields joined
@@ -116,7 +116,7 @@ module _ (table : List ℕ) (count : ℕ) (contents out : List ℕ) where
       let f = in_front (delivery_bytes d) table count contents _ b in
       let a = named (bytes "L101") _ count (fits (delivery_bytes d) table count contents _ b) (ap (slice 0 4) f) in
       let v = ap delivery_of f ∙ delivery_values d _ h (fixed_allowed (delivery_bytes d) table count contents _ b) in
-      record { reads = delivery_read _ count a ∙ ap (λ (x : Delivery). record { checked = checked_of (Fits count); delivery = x }) v; fields = b.fields_are_same }
+      record { reads = delivery_read _ count a ∙ ap (λ (x : Delivery). record { checked = checked_of (Ok count); delivery = x }) v; fields = b.fields_are_same }
 
   pub report_reads_back : (m : Report) → ReportShaped m → (write_call (report_bytes m) table count contents out).said.answer ≡ 0 → ReportReadsBack m table count contents out
   unfolding report_bytes report_fields joined
@@ -125,23 +125,23 @@ module _ (table : List ℕ) (count : ℕ) (contents out : List ℕ) where
       let f = in_front (report_bytes m) table count contents _ b in
       let a = named (bytes "M101") _ count (fits (report_bytes m) table count contents _ b) (ap (slice 0 4) f) in
       let v = ap report_of f ∙ report_values m _ h (fixed_allowed (report_bytes m) table count contents _ b) in
-      record { reads = report_read _ count a ∙ ap (λ (x : Report). record { checked = checked_of (Fits count); report = x }) v; fields = b.fields_are_same }
+      record { reads = report_read _ count a ∙ ap (λ (x : Report). record { checked = checked_of (Ok count); report = x }) v; fields = b.fields_are_same }
 
 -- a typed record is read with what its verdict says
 order_checked : (v : Verdict) (s : List ℕ) → (order_from v s).checked ≡ checked_of v
 unfolding order_from
-order_checked (Refused r) s = refl
-order_checked (Fits n) s = refl
+order_checked (Err r) s = refl
+order_checked (Ok n) s = refl
 
 delivery_checked : (v : Verdict) (s : List ℕ) → (delivery_from v s).checked ≡ checked_of v
 unfolding delivery_from
-delivery_checked (Refused r) s = refl
-delivery_checked (Fits n) s = refl
+delivery_checked (Err r) s = refl
+delivery_checked (Ok n) s = refl
 
 report_checked : (v : Verdict) (s : List ℕ) → (report_from v s).checked ≡ checked_of v
 unfolding report_from
-report_checked (Refused r) s = refl
-report_checked (Fits n) s = refl
+report_checked (Err r) s = refl
+report_checked (Ok n) s = refl
 
 -- WRITE AFTER READ: what was read of a record, written with the table that the check filled and the record itself as lent contents, answers 0 and gives the same bytes
 module _ (s table out : List ℕ) (c : (read_call s table).said.answer ≡ 0) (room : length s ≤ length out) where

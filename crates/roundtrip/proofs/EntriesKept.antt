@@ -15,7 +15,7 @@ use Rattle.record.specs.declared.layout.Kind.{Kind}
 use Rattle.writing.specs.Write.{content_byte, content_in, optional_in, optional_of, inside, writable, next_id, entry_kept, fields_judged}
 use Rattle.writing.specs.Widths.{all_inside}
 use Rattle.writing.specs.declared.answer.Refusal.TheVariants.{Content, Group}
-use Rattle.writing.specs.declared.answer.Verdict.TheVariants.{Fits}
+use Rattle.std.specs.Prelude.{Ok}
 use Rattle.writing.specs.declared.entries.Entry.{Entry}
 use Rattle.writing.proofs.Fitting.{refuses_false}
 use Rattle.roundtrip.specs.Record.{id_after, optional_kept}
@@ -37,9 +37,9 @@ module _ (k : Kind) (contents : List ℕ) where
     bytes : all (belongs Allowed) (content_in contents e) && all not_star (content_in contents e) ≡ true
     content : content_kept k e.id (content_in contents e) ≡ true
     group : group_kept before e.id (next_id es) ≡ true
-    others : fields_judged k contents e.id (i + 1) es ≡ Fits m
+    others : fields_judged k contents e.id (i + 1) es ≡ Ok m
 
-  passes : (before i : ℕ) (e : Entry) (es : List Entry) (m : ℕ) → fields_judged k contents before i (e ∷ es) ≡ Fits m → Passed before i e es m
+  passes : (before i : ℕ) (e : Entry) (es : List Entry) (m : ℕ) → fields_judged k contents before i (e ∷ es) ≡ Ok m → Passed before i e es m
   unfolding fields_judged entry_kept writable belongs
   passes before i e es m h =
       let one = refuses_false (entry_kept k contents e) _ (Content i) m h in
@@ -55,7 +55,7 @@ module _ (k : Kind) (contents : List ℕ) where
       }
 
   -- the fields that accepted entries name are kept
-  pub accepted_kept : (before i : ℕ) (es : List Entry) (m : ℕ) → fields_judged k contents before i es ≡ Fits m
+  pub accepted_kept : (before i : ℕ) (es : List Entry) (m : ℕ) → fields_judged k contents before i es ≡ Ok m
       → optional_kept k before (optional_of contents es) ≡ true
   unfolding optional_of optional_in optional_kept
   accepted_kept before i [] m h = refl
@@ -65,7 +65,7 @@ module _ (k : Kind) (contents : List ℕ) where
       (accepted_kept e.id (i + 1) es m p.others)
 
   -- and their bytes are allowed
-  pub accepted_allowed : (before i : ℕ) (es : List Entry) (m : ℕ) → fields_judged k contents before i es ≡ Fits m
+  pub accepted_allowed : (before i : ℕ) (es : List Entry) (m : ℕ) → fields_judged k contents before i es ≡ Ok m
       → contents_allowed (optional_of contents es) ≡ true
   unfolding optional_of optional_in contents_allowed
   accepted_allowed before i [] m h = refl
@@ -75,7 +75,7 @@ module _ (k : Kind) (contents : List ℕ) where
 
   -- entries inside the lent contents whose fields are kept, of bytes that are allowed, are accepted
   pub kept_accepted : (before i : ℕ) (es : List Entry) → all_inside contents es ≡ true → optional_kept k before (optional_of contents es) ≡ true
-      → contents_allowed (optional_of contents es) ≡ true → fields_judged k contents before i es ≡ Fits 0
+      → contents_allowed (optional_of contents es) ≡ true → fields_judged k contents before i es ≡ Ok 0
   unfolding optional_of optional_in contents_allowed all_inside fields_judged entry_kept writable belongs
   kept_accepted before i [] within kept ok = refl
   kept_accepted before i (e ∷ es) within kept ok =

@@ -17,10 +17,8 @@ use Rattle.signs.specs.declared.Class.TheVariants.{Digit}
 use Rattle.rules.proofs.Digits.{width}
 use Rattle.record.specs.Fields.{last_id, head_width, head_of, id_of, content_width, content_of, field_width, after_field, on_head, at_field, walk, fields_of}
 use Rattle.record.specs.declared.answer.Refusal.TheVariants.{TooManyFields}
-use Rattle.record.specs.declared.answer.Verdict.{Verdict}
-use Rattle.record.specs.declared.answer.Verdict.TheVariants.{Refused, Fits}
-use Rattle.record.specs.declared.fields.Head.{Head}
-use Rattle.record.specs.declared.fields.Head.TheVariants.{Id, Missing}
+use Rattle.record.specs.Verdicts.{Verdict}
+use Rattle.std.specs.Prelude.{Err, None, Ok, Option, Some}
 use Rattle.walks.proofs.Heads.{id_of_law}
 use Rattle.writing.specs.Digits.{digits_of}
 use Rattle.writing.specs.Write.{field_text, optional_text}
@@ -39,7 +37,7 @@ Fields zero t = t ≡ bytes "*9999"
 Fields (suc n) t = Standing t × Fields n (after_field t)
 
 -- an ID stands at the front of t
-module _ (t : List ℕ) (id : ℕ) (e : head_of t ≡ Id id) where
+module _ (t : List ℕ) (id : ℕ) (e : head_of t ≡ Some id) where
   -- so the test of a head is passed there
   tested : star (get_or t 0 0) && of_class Digit 4 4 (slice 1 head_width t) ≡ true
   unfolding head_of
@@ -90,12 +88,12 @@ unfolding content_of after_field field_width
 content_text t = sym (rw (← drop-drop (content_width t) head_width t) (take-append-drop (content_width t) (drop head_width t)))
 
 -- where 9999 stands as the last five bytes, these are `*9999`
-pub last_text : (t : List ℕ) → head_of t ≡ Id last_id → length t ≡ head_width → t ≡ bytes "*9999"
+pub last_text : (t : List ℕ) → head_of t ≡ Some last_id → length t ≡ head_width → t ≡ bytes "*9999"
 unfolding digits_of
 last_text t e l = head_text t last_id e ∙ rw (drop_of_length-le t {i = head_width} (omega arith))
 
 -- where another ID stands, a field does that is not the last
-pub standing : (t : List ℕ) (id : ℕ) → head_of t ≡ Id id → (id ≡ last_id → ⊥) → Standing t
+pub standing : (t : List ℕ) (id : ℕ) → head_of t ≡ Some id → (id ≡ last_id → ⊥) → Standing t
 standing t id e other =
     let i = id_of_law t id e in
     let s = head_small t id e in
@@ -106,11 +104,11 @@ standing t id e other =
     }
 
 -- where a walk fits at a place, the last field stands there and the fields before it are all, or another does and those after it fit
-head_fits : (d : Head) (n p : ℕ) (t : List ℕ) (x : Verdict) (m : ℕ) → head_of t ≡ d → on_head d n p t x ≡ Fits m
-    → ((n ≡ m) × (t ≡ bytes "*9999")) ⊎ (Standing t × (x ≡ Fits m))
+head_fits : (d : Option ℕ) (n p : ℕ) (t : List ℕ) (x : Verdict) (m : ℕ) → head_of t ≡ d → on_head d n p t x ≡ Ok m
+    → ((n ≡ m) × (t ≡ bytes "*9999")) ⊎ (Standing t × (x ≡ Ok m))
 unfolding on_head
-head_fits Missing n p t x m h e = let a : ◌≡◌ {A = ℕ} 0 1 = cc in absurd (omega arith)
-head_fits (Id id) n p t x m h e =
+head_fits None n p t x m h e = let a : ◌≡◌ {A = ℕ} 0 1 = cc in absurd (omega arith)
+head_fits (Some id) n p t x m h e =
     split (eqb id last_id)
     (λ q.
     let f = rw q at e in
@@ -118,12 +116,12 @@ head_fits (Id id) n p t x m h e =
     (λ l.
     let g = rw l at f in
     let c : n ≡ m = cc in
-    inl (c, last_text t (h ∙ ap Id (eqb-true id last_id q)) (eqb-true (length t) head_width l)))
+    inl (c, last_text t (h ∙ ap Some (eqb-true id last_id q)) (eqb-true (length t) head_width l)))
     (λ l. let g = rw l at f in let a : ◌≡◌ {A = ℕ} 0 1 = cc in absurd (omega arith)))
     (λ q. inr (standing t id h (eqb-false id last_id q), rw q at e))
 
 -- the same, before it is asked whether anything stands there
-field_fits : (n p : ℕ) (t : List ℕ) (x : Verdict) (m : ℕ) → at_field n p t x ≡ Fits m → ((n ≡ m) × (t ≡ bytes "*9999")) ⊎ (Standing t × (x ≡ Fits m))
+field_fits : (n p : ℕ) (t : List ℕ) (x : Verdict) (m : ℕ) → at_field n p t x ≡ Ok m → ((n ≡ m) × (t ≡ bytes "*9999")) ⊎ (Standing t × (x ≡ Ok m))
 unfolding at_field
 field_fits n p t x m e =
     split (eqb (length t) 0)
@@ -131,11 +129,11 @@ field_fits n p t x m e =
     (λ l. head_fits (head_of t) n p t x m refl (rw l at e))
 
 -- a walk that fits with n fields passed finds the others, then the last
-pub walk_fields : (room n p : ℕ) (t : List ℕ) (m : ℕ) → walk room n p t ≡ Fits m → (c : ℕ) × ((n + c ≡ m) × Fields c t)
+pub walk_fields : (room n p : ℕ) (t : List ℕ) (m : ℕ) → walk room n p t ≡ Ok m → (c : ℕ) × ((n + c ≡ m) × Fields c t)
 unfolding walk
 walk_fields zero n p t m e =
     ⊎_elim (λ q. (0, (omega arith, q.1))) (λ q. let g = q.1 in let a : ◌≡◌ {A = ℕ} 0 1 = cc in absurd (omega arith))
-    (field_fits n p t (Refused (TooManyFields p)) m e)
+    (field_fits n p t (Err (TooManyFields p)) m e)
 walk_fields (suc room) n p t m e =
     ⊎_elim (λ q. (0, (omega arith, q.1)))
     (λ q.
@@ -144,7 +142,7 @@ walk_fields (suc room) n p t m e =
     (field_fits n p t (walk room (n + 1) (p + field_width t) (after_field t)) m e)
 
 -- and one from the first field on finds as many as it says
-pub walked_fields : (room p : ℕ) (t : List ℕ) (n : ℕ) → walk room 0 p t ≡ Fits n → Fields n t
+pub walked_fields : (room p : ℕ) (t : List ℕ) (n : ℕ) → walk room 0 p t ≡ Ok n → Fields n t
 walked_fields room p t n e =
     let r = walk_fields room 0 p t n e in
     let c : r.0 ≡ n = omega arith in

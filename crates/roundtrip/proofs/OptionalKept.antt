@@ -10,7 +10,7 @@ use Rattle.cells.specs.Bytes.{all}
 use Rattle.cells.proofs.Bools.{and_left, and_right}
 use Rattle.record.specs.Contents.{content_kept, group_kept}
 use Rattle.record.specs.Fields.{last_id, head_width, not_star, id_of, content_width, content_of, field_width, after_field, judge, Optional, fields_of}
-use Rattle.record.specs.declared.answer.Verdict.TheVariants.{Fits}
+use Rattle.std.specs.Prelude.{Ok}
 use Rattle.record.specs.declared.layout.Kind.{Kind}
 use Rattle.reader.proofs.Fitting.{passed}
 use Rattle.writing.specs.Write.{optional_text}
@@ -63,7 +63,7 @@ module _ (k : Kind) where
   text_next (f ∷ fs) w = text_id f (optional_text fs) w.0
 
   -- reading judges their text well
-  pub text_judged : (before p : ℕ) (fs : List Optional) → optional_kept k before fs ≡ true → judge k (length fs) before p (optional_text fs) ≡ Fits 0
+  pub text_judged : (before p : ℕ) (fs : List Optional) → optional_kept k before fs ≡ true → judge k (length fs) before p (optional_text fs) ≡ Ok 0
   unfolding optional_text judge
   text_judged before p [] e = refl
   text_judged before p (f ∷ fs) e =
@@ -92,7 +92,7 @@ module _ (k : Kind) where
   content_plain t = all_front not_star (drop head_width t)
 
   -- fields that stand in t and that reading judges well are kept
-  pub judged_kept : (n before p : ℕ) (t : List ℕ) (m : ℕ) → Fields n t → judge k n before p t ≡ Fits m → optional_kept k before (fields_of n t) ≡ true
+  pub judged_kept : (n before p : ℕ) (t : List ℕ) (m : ℕ) → Fields n t → judge k n before p t ≡ Ok m → optional_kept k before (fields_of n t) ≡ true
   unfolding judge optional_kept fields_of
   judged_kept zero before p t m h e = refl
   judged_kept (suc n) before p t m h e =

@@ -3,8 +3,8 @@ use mathlib.Core.Path.{◌≡◌, ◌∙◌, ap, sym, refl}
 use mathlib.Core.List.{List}
 use Prim.Native.Nat.{ℕ}
 use Rattle.writing.specs.Write.{written_of, write_judged, Outcome, outcome, output_after, write}
-use Rattle.writing.specs.declared.answer.Verdict.{Verdict}
-use Rattle.writing.specs.declared.answer.Verdict.TheVariants.{Refused, Fits}
+use Rattle.writing.specs.Verdicts.{Verdict}
+use Rattle.std.specs.Prelude.{Err, Ok}
 use Rattle.writing.specs.declared.answer.Written.{Written}
 
 -- `write` and the typed calls: the answer, place and length, and the output at exit, are fixed by what is lent
@@ -19,8 +19,8 @@ write_unique fixed table count contents out said said' exit exit' p q =
 -- a verdict that is not answered 0 leaves an output as it was
 verdict_keeps : (v : Verdict) (text out : List ℕ) → ((written_of v).answer ≡ 0 → ⊥) → output_after v text out ≡ out
 unfolding written_of output_after
-verdict_keeps (Refused r) text out h = refl
-verdict_keeps (Fits n) text out h = absurd (h refl)
+verdict_keeps (Err r) text out h = refl
+verdict_keeps (Ok n) text out h = absurd (h refl)
 
 -- a writing that does not answer 0 leaves the lent output as it was
 pub refusal_keeps : (fixed table : List ℕ) (count : ℕ) (contents out : List ℕ)

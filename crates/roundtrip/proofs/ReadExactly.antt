@@ -19,11 +19,9 @@ use Rattle.record.specs.Fields.{head_width, walk, judge, Optional, fields_of}
 use Rattle.record.specs.Read.{judged, kind_judged, entry_width, optional_start, optional_fields, Outcome, check}
 use Rattle.record.specs.declared.answer.Refusal.{Refusal}
 use Rattle.record.specs.declared.answer.Refusal.TheVariants.{TooLong, UnknownKind, TooShort, Byte, FixedField, NoField, LastField, TooManyFields, Content, Group, SmallTable}
-use Rattle.record.specs.declared.answer.Verdict.{Verdict}
-use Rattle.record.specs.declared.answer.Verdict.TheVariants.{Refused, Fits}
+use Rattle.record.specs.Verdicts.{Verdict}
+use Rattle.std.specs.Prelude.{Err, Ok, Option, Some}
 use Rattle.record.specs.declared.layout.Kind.{Kind}
-use Rattle.record.specs.declared.layout.Kinded.{Kinded}
-use Rattle.record.specs.declared.layout.Kinded.TheVariants.{Known}
 use Rattle.reader.proofs.Stages.{by_kind, kind_rest, judge_fits, small_table, check_fits}
 use Rattle.reader.proofs.Fitting.{Fitting, fitting, fits_known, fits_long, fits_count}
 use Rattle.writing.specs.Write.{entries, optional_of, optional_text, record_text}
@@ -52,10 +50,10 @@ refused_not (Group p) e = omega arith
 refused_not SmallTable e = omega arith
 
 -- a verdict that is answered 0 fits
-pub verdict_fits : (v : Verdict) → (checked_of v).answer ≡ 0 → (n : ℕ) × (v ≡ Fits n)
+pub verdict_fits : (v : Verdict) → (checked_of v).answer ≡ 0 → (n : ℕ) × (v ≡ Ok n)
 unfolding checked_of
-verdict_fits (Refused r) e = absurd (refused_not r e)
-verdict_fits (Fits n) e = (n, refl)
+verdict_fits (Err r) e = absurd (refused_not r e)
+verdict_fits (Ok n) e = (n, refl)
 
 -- a check answered 0: the table was large
 pub table_large : (s lent : List ℕ) → (check s lent).said.answer ≡ 0 → LargeTable lent
@@ -66,13 +64,13 @@ table_large s lent e =
     (λ h. ltb-false (length lent) (most_fields * entry_width) h)
 
 -- and the record fits
-pub check_done : (s lent : List ℕ) → (check s lent).said.answer ≡ 0 → (n : ℕ) × (judged s ≡ Fits n)
+pub check_done : (s lent : List ℕ) → (check s lent).said.answer ≡ 0 → (n : ℕ) × (judged s ≡ Ok n)
 unfolding check
 check_done s lent e = verdict_fits (judged s) (rw (le-ltb (length lent) (most_fields * entry_width) (table_large s lent e)) at e)
 
 -- a check of a record that fits, with a large table, is done with so many fields, and the entries in the table name them
-module _ (s lent : List ℕ) (h : LargeTable lent) (n : ℕ) (e : judged s ≡ Fits n) where
-  pub fits_said : (check s lent).said ≡ checked_of (Fits n)
+module _ (s lent : List ℕ) (h : LargeTable lent) (n : ℕ) (e : judged s ≡ Ok n) where
+  pub fits_said : (check s lent).said ≡ checked_of (Ok n)
   fits_said = ap (λ (o : Outcome). o.said) (check_fits s lent h n e)
 
   pub fits_table : optional_of s (entries n (check s lent).table) ≡ optional_fields n s
@@ -85,7 +83,7 @@ module _ (k : Kind) (fixed : List ℕ) (fs : List Optional) (w : Whole k fixed f
   text = record_text fixed fs
 
   -- its kind is that of the fixed part
-  pub whole_kind : kind_of text ≡ Known k
+  pub whole_kind : kind_of text ≡ Some k
   unfolding record_text
   whole_kind = kind_front fixed (optional_text fs) (omega (arith, date_inside k, w.wide)) ∙ w.named
 
@@ -98,10 +96,10 @@ module _ (k : Kind) (fixed : List ℕ) (fs : List Optional) (w : Whole k fixed f
   sound : AllWritable fs
   sound = kept_writable k no_member fs w.kept
 
-  walked : walk most_fields 0 (fixed_width k) (drop (fixed_width k) text) ≡ Fits (length fs)
-  walked = rw behind (text_walked fs sound most_fields 0 (fixed_width k) w.few ∙ ap Fits (zero-add (length fs)))
+  walked : walk most_fields 0 (fixed_width k) (drop (fixed_width k) text) ≡ Ok (length fs)
+  walked = rw behind (text_walked fs sound most_fields 0 (fixed_width k) w.few ∙ ap Ok (zero-add (length fs)))
 
-  well : judge k (length fs) no_member (fixed_width k) (drop (fixed_width k) text) ≡ Fits 0
+  well : judge k (length fs) no_member (fixed_width k) (drop (fixed_width k) text) ≡ Ok 0
   well = rw behind (text_judged k no_member (fixed_width k) fs w.kept)
 
   -- none of its fixed fields is broken
@@ -115,10 +113,10 @@ module _ (k : Kind) (fixed : List ℕ) (fs : List Optional) (w : Whole k fixed f
   long = omega (arith, text_least fs, length-append fixed (optional_text fs), w.wide)
 
   -- so reading says that it fits
-  pub whole_fits : judged text ≡ Fits (length fs)
+  pub whole_fits : judged text ≡ Ok (length fs)
   whole_fits =
       by_kind text w.short
-      ∙ ap (λ (j : Kinded). kind_judged j text) whole_kind
+      ∙ ap (λ (j : Option Kind). kind_judged j text) whole_kind
       ∙ kind_rest k text long (all_whole (belongs Allowed) text w.allowed) unbroken
       ∙ judge_fits k (fixed_width k) (drop (fixed_width k) text) (length fs) walked 0 well
 
@@ -153,7 +151,7 @@ abbrev pub optional_from : Kind → List ℕ → List ℕ
 optional_from k s = drop (fixed_width k) s
 
 -- a record of a kind that fits with n optional fields
-module _ (k : Kind) (s : List ℕ) (n : ℕ) (g : kind_of s ≡ Known k) (e : judged s ≡ Fits n) where
+module _ (k : Kind) (s : List ℕ) (n : ℕ) (g : kind_of s ≡ Some k) (e : judged s ≡ Ok n) where
   -- what is known of it
   fit : Fitting k s n
   fit = fitting k s n g e
@@ -172,7 +170,7 @@ module _ (k : Kind) (s : List ℕ) (n : ℕ) (g : kind_of s ≡ Known k) (e : ju
   fixed_long = length-take-le (fixed_width k) s (omega (arith, fit.wide))
 
   -- is of its kind
-  fixed_kind : kind_of (fixed_of k s) ≡ Known k
+  fixed_kind : kind_of (fixed_of k s) ≡ Some k
   fixed_kind =
       sym (kind_front (fixed_of k s) (optional_from k s) (omega (arith, fixed_long, date_inside k)))
       ∙ ap kind_of (take-append-drop (fixed_width k) s)
@@ -198,7 +196,7 @@ module _ (k : Kind) (s : List ℕ) (n : ℕ) (g : kind_of s ≡ Known k) (e : ju
   }
 
 -- what fits is a record
-pub fits_record : (s : List ℕ) (n : ℕ) → judged s ≡ Fits n → IsRecord s
+pub fits_record : (s : List ℕ) (n : ℕ) → judged s ≡ Ok n → IsRecord s
 fits_record s n e =
     let k = fits_known s n e in
     let m = whole_made _ _ k.0 (fits_whole k.0 s n k.1 e) in
@@ -217,7 +215,7 @@ read_exactly s lent = record {
 }
 
 -- so a record fits
-pub record_fits : (s : List ℕ) → IsRecord s → (n : ℕ) × (judged s ≡ Fits n)
+pub record_fits : (s : List ℕ) → IsRecord s → (n : ℕ) × (judged s ≡ Ok n)
 record_fits s r =
     let lent : List ℕ = replicate (most_fields * entry_width) 0 in
     check_done s lent ((read_exactly s lent).all_records (omega arith) r)

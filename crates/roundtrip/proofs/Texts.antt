@@ -14,9 +14,8 @@ use Rattle.rules.specs.Number.{number_from}
 use Rattle.signs.proofs.Classes.{digit_allowed}
 use Rattle.signs.specs.declared.Class.TheVariants.{Allowed, Digit}
 use Rattle.record.specs.Fields.{last_id, head_width, head_of, id_in, id_of, not_star, content_width, content_of, field_width, after_field, at_field, on_head, walk, Optional, fields_of}
-use Rattle.record.specs.declared.fields.Head.TheVariants.{Id}
-use Rattle.record.specs.declared.answer.Verdict.{Verdict}
-use Rattle.record.specs.declared.answer.Verdict.TheVariants.{Fits}
+use Rattle.std.specs.Prelude.{Ok, Some}
+use Rattle.record.specs.Verdicts.{Verdict}
 use Rattle.writing.specs.Digits.{digits_of}
 use Rattle.writing.specs.Write.{field_text, optional_text}
 use Rattle.writing.proofs.Decimals.{digits_length}
@@ -49,7 +48,7 @@ module _ (f : Optional) (rest : List ℕ) where
   text_behind = rw shape (drop_at (digits_of 4 f.id) (f.content ++ rest) 4 (digits_length 4 f.id))
 
   -- its head is its ID
-  pub text_head : f.id < 10 ^ 4 → head_of (field_text f ++ rest) ≡ Id f.id
+  pub text_head : f.id < 10 ^ 4 → head_of (field_text f ++ rest) ≡ Some f.id
   unfolding head_of of_class
   text_head h = rw (text_digits, digits_length 4 f.id, digits_all 4 f.id, number_of_digits 4 f.id h, shape)
 
@@ -107,7 +106,7 @@ text_allowed [] = refl
 text_allowed (f ∷ fs) = rw (all_append, field_allowed f, text_allowed fs)
 
 -- what stands at its end is the last field
-last_head : head_of (bytes "*9999") ≡ Id last_id
+last_head : head_of (bytes "*9999") ≡ Some last_id
 unfolding head_of of_class all_of all belongs number_from
 last_head = refl
 
@@ -116,7 +115,7 @@ unfolding id_of id_in
 last_id_law = rw last_head
 
 -- the walk ends at the last field
-at_last : (n p : ℕ) (more : Verdict) → at_field n p (bytes "*9999") more ≡ Fits n
+at_last : (n p : ℕ) (more : Verdict) → at_field n p (bytes "*9999") more ≡ Ok n
 unfolding at_field on_head
 at_last n p more = rw last_head
 
@@ -129,10 +128,10 @@ at_other n p f rest more w =
     rw (ne_eqb (length (field_text f ++ rest)) 0 (λ e. omega arith), text_head f rest (omega arith), ne_eqb f.id last_id (λ e. omega arith))
 
 -- so it fits, where there is room for all fields
-pub text_walked : (fs : List Optional) → AllWritable fs → (room n p : ℕ) → length fs ≤ room → walk room n p (optional_text fs) ≡ Fits (n + length fs)
+pub text_walked : (fs : List Optional) → AllWritable fs → (room n p : ℕ) → length fs ≤ room → walk room n p (optional_text fs) ≡ Ok (n + length fs)
 unfolding optional_text walk
-text_walked [] w zero n p h = at_last n p _ ∙ ap Fits (omega arith)
-text_walked [] w (suc room) n p h = at_last n p _ ∙ ap Fits (omega arith)
+text_walked [] w zero n p h = at_last n p _ ∙ ap Ok (omega arith)
+text_walked [] w (suc room) n p h = at_last n p _ ∙ ap Ok (omega arith)
 text_walked (f ∷ fs) w zero n p h = absurd (omega arith)
 text_walked (f ∷ fs) w (suc room) n p h =
     let t = field_text f ++ optional_text fs in

@@ -16,7 +16,7 @@ use Rattle.signs.specs.declared.Class.TheVariants.{Allowed, Digit, Zero}
 use Rattle.record.specs.Layout.{date_start, layout, total, fixed_width, start_of, kind_of, first_broken}
 use Rattle.record.specs.Values.{field_bytes, order_of, delivery_of, report_of}
 use Rattle.record.specs.Read.{judged_as}
-use Rattle.record.specs.declared.answer.Verdict.TheVariants.{Fits}
+use Rattle.std.specs.Prelude.{Ok}
 use Rattle.record.specs.declared.layout.Kind.TheVariants.{Order as order, Goods as goods, Closing as closing, Report as report}
 use Rattle.record.specs.declared.values.Order.{Order}
 use Rattle.record.specs.declared.values.Delivery.{Delivery}
@@ -219,14 +219,14 @@ delivery_fields_law s name wide date quantity price discount =
     ∷ []
 
 -- the fixed part made from the values of a record that fits is the record's own
-pub order_bytes_of : (s : List ℕ) (n : ℕ) → judged_as (bytes "B101") s ≡ Fits n → order_bytes (order_of s) ≡ take (fixed_width order) s
+pub order_bytes_of : (s : List ℕ) (n : ℕ) → judged_as (bytes "B101") s ≡ Ok n → order_bytes (order_of s) ≡ take (fixed_width order) s
 unfolding order_bytes fixed_width kind_of same
 order_bytes_of s n e =
     let name = name_of (bytes "B101") s n e in
     let f = fitting order s n (rw name) (fits_as (bytes "B101") s n e) in
     ap joined (order_fields_law s name f.kept) ∙ fields_joined (layout order) s
 
-pub report_bytes_of : (s : List ℕ) (n : ℕ) → judged_as (bytes "M101") s ≡ Fits n → report_bytes (report_of s) ≡ take (fixed_width report) s
+pub report_bytes_of : (s : List ℕ) (n : ℕ) → judged_as (bytes "M101") s ≡ Ok n → report_bytes (report_of s) ≡ take (fixed_width report) s
 unfolding report_bytes fixed_width kind_of same
 report_bytes_of s n e =
     let name = name_of (bytes "M101") s n e in
@@ -244,7 +244,7 @@ fit_fields s n false name f =
     let rule = field_kept goods s f.kept in
     delivery_fields_law s name (omega (arith, f.wide)) (goods_day_bytes _ (rule 5)) (rule 11) (rule 12) (rule 15)
 
-pub delivery_bytes_of : (s : List ℕ) (n : ℕ) → judged_as (bytes "L101") s ≡ Fits n → delivery_bytes (delivery_of s) ≡ take (fixed_width goods) s
+pub delivery_bytes_of : (s : List ℕ) (n : ℕ) → judged_as (bytes "L101") s ≡ Ok n → delivery_bytes (delivery_of s) ≡ take (fixed_width goods) s
 unfolding delivery_bytes fixed_width kind_of same
 delivery_bytes_of s n e =
     let name = name_of (bytes "L101") s n e in

@@ -16,7 +16,7 @@ use Rattle.rules.specs.Day.{first_year, last_year, leap, month_lengths, month_da
 use Rattle.rules.specs.Values.{expected_of}
 use Rattle.signs.specs.declared.Class.TheVariants.{Digit, Allowed}
 use Rattle.rules.specs.declared.day.Day.{Day}
-use Rattle.rules.specs.declared.day.Dated.TheVariants.{Real}
+use Rattle.std.specs.Prelude.{Some}
 use Rattle.rules.specs.declared.expected.Expected.{Expected}
 use Rattle.rules.specs.declared.expected.Expected.TheVariants.{On, Zeros, Blanks}
 use Rattle.signs.proofs.Runs.{all_at}
@@ -104,8 +104,8 @@ module _ (d : Day) (e : real_day d ≡ true) where
       }
 
   -- and eight of them, so they are judged to be the day
-  judged_back : dated (day_digits d) ≡ Real d
-  judged_back = dated_real (day_digits d) (digits_eight d) (digits_only d) (ap real_day digits_of_day ∙ e) ∙ ap Real digits_of_day
+  judged_back : dated (day_digits d) ≡ Some d
+  judged_back = dated_real (day_digits d) (digits_eight d) (digits_only d) (ap real_day digits_of_day ∙ e) ∙ ap Some digits_of_day
 
 -- a day
 pub day_back : (d : Day) → AllAllowed (day_bytes d) → day_kept (day_bytes d) ≡ d

@@ -12,7 +12,7 @@ use Rattle.record.specs.Layout.{most_bytes, most_fields, layout, fixed_width, ki
 use Rattle.record.specs.Contents.{no_member}
 use Rattle.record.specs.Fields.{Optional}
 use Rattle.record.specs.declared.layout.Kind.{Kind}
-use Rattle.record.specs.declared.layout.Kinded.TheVariants.{Known}
+use Rattle.std.specs.Prelude.{Some}
 use Rattle.writing.specs.Write.{record_text}
 use Rattle.roundtrip.specs.Record.{Parts, fixed_part, optional_kept, MakesRecord, Makes}
 use Rattle.roundtrip.proofs.FixedFields.{fields_from}
@@ -20,7 +20,7 @@ use Rattle.roundtrip.proofs.FixedKept.{kept_length, kept_whole, fields_whole, fi
 
 -- a fixed part of a kind and optional fields that make a record
 pub record Whole (k : Kind) (fixed : List ℕ) (fs : List Optional) : Type 0 where
-  pub named : kind_of fixed ≡ Known k
+  pub named : kind_of fixed ≡ Some k
   pub wide : length fixed ≡ fixed_width k
   pub unbroken : first_broken (layout k) fixed ≡ length (layout k)
   pub kept : optional_kept k no_member fs ≡ true

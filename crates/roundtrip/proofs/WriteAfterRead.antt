@@ -8,9 +8,8 @@ use Rattle.record.specs.Layout.{fixed_width, kind_of}
 use Rattle.record.specs.Answers.{checked_of}
 use Rattle.record.specs.Fields.{entries_of, fields_of}
 use Rattle.record.specs.Read.{judged, entry_width, optional_start}
-use Rattle.record.specs.declared.answer.Verdict.TheVariants.{Fits}
+use Rattle.std.specs.Prelude.{Ok, Some}
 use Rattle.record.specs.declared.layout.Kind.{Kind}
-use Rattle.record.specs.declared.layout.Kinded.TheVariants.{Known}
 use Rattle.walks.proofs.Tables.{entries_length}
 use Rattle.reader.proofs.Stages.{check_fits}
 use Rattle.writing.specs.Write.{entries, optional_of, record_text}
@@ -26,7 +25,7 @@ abbrev pub stored_of : Kind → List ℕ → ℕ → List ℕ → List ℕ
 stored_of k s n rest = entries_of n (fixed_width k) (optional_from k s) ++ rest
 
 -- a record of a kind that fits with n optional fields, and its entries
-module _ (k : Kind) (s : List ℕ) (n : ℕ) (g : kind_of s ≡ Known k) (e : judged s ≡ Fits n) (rest : List ℕ) where
+module _ (k : Kind) (s : List ℕ) (n : ℕ) (g : kind_of s ≡ Some k) (e : judged s ≡ Ok n) (rest : List ℕ) where
   -- its fixed part and the fields that the entries name are the record again
   text_same : record_text (fixed_of k s) (optional_of s (entries n (stored_of k s n rest))) ≡ s
   text_same = rw (fields_back s n (fixed_width k) rest) (fits_text k s n g e)
@@ -52,7 +51,7 @@ module _ (k : Kind) (s : List ℕ) (n : ℕ) (g : kind_of s ≡ Known k) (e : ju
     fit_back = rw text_same at ((write_exactly (fixed_of k s) (stored_of k s n rest) n s out).all_records can)
 
 -- what is written from what a check of a record gave is the record
-pub write_after_read : (k : Kind) (s lent out : List ℕ) → kind_of s ≡ Known k → (read_call s lent).said.answer ≡ 0 → length s ≤ length out
+pub write_after_read : (k : Kind) (s lent out : List ℕ) → kind_of s ≡ Some k → (read_call s lent).said.answer ≡ 0 → length s ≤ length out
     → WritesBack (take (fixed_width k) s) (read_call s lent).table (read_call s lent).said.fields s out
 unfolding checked_of optional_start
 write_after_read k s lent out g a room =

@@ -19,8 +19,8 @@ use Rattle.record.specs.declared.layout.Kind.{Kind}
 use Rattle.writing.specs.Write.{refusal_number, fixed_judged, entries, optional_of, optional_text, record_text, fields_judged, length_judged, write_judged, written_of, outcome, write}
 use Rattle.writing.specs.declared.answer.Refusal.{Refusal}
 use Rattle.writing.specs.declared.answer.Refusal.TheVariants.{FixedField, TooManyFields, SmallTable, Content, Group, TooLong, SmallOutput}
-use Rattle.writing.specs.declared.answer.Verdict.{Verdict}
-use Rattle.writing.specs.declared.answer.Verdict.TheVariants.{Refused, Fits}
+use Rattle.writing.specs.Verdicts.{Verdict}
+use Rattle.std.specs.Prelude.{Err, Ok}
 use Rattle.writing.proofs.Stages.{fixed_fits, fields_fit, fixed_passed, write_fits}
 use Rattle.writing.proofs.Fitting.{Fitting, fitting, fits_inside}
 use Rattle.roundtrip.specs.Record.{CanWrite}
@@ -43,10 +43,10 @@ never_done TooLong e = omega arith
 never_done SmallOutput e = omega arith
 
 -- so the answer 0 is that of a record that fits
-done_fits : (v : Verdict) → (written_of v).answer ≡ 0 → (n : ℕ) × (v ≡ Fits n)
+done_fits : (v : Verdict) → (written_of v).answer ≡ 0 → (n : ℕ) × (v ≡ Ok n)
 unfolding written_of
-done_fits (Refused r) e = absurd (never_done r e)
-done_fits (Fits n) e = (n, refl)
+done_fits (Err r) e = absurd (never_done r e)
+done_fits (Ok n) e = (n, refl)
 
 -- a fixed part, a table of so many entries, lent contents and an output
 module _ (fixed table : List ℕ) (count : ℕ) (contents out : List ℕ) where
@@ -69,18 +69,18 @@ module _ (fixed table : List ℕ) (count : ℕ) (contents out : List ℕ) where
         let a = rw (all_append (belongs Allowed) fixed (optional_text fields), text_allowed fields) at w.allowed in
         (and_left (all (belongs Allowed) fixed) (contents_allowed fields) a, and_right (all (belongs Allowed) fixed) (contents_allowed fields) a)
 
-    fixed_done : fixed_judged (kind_of fixed) fixed ≡ Fits 0
+    fixed_done : fixed_judged (kind_of fixed) fixed ≡ Ok 0
     fixed_done =
         rw w.named (fixed_fits k fixed w.wide (faultless k fixed w.wide w.unbroken (all_whole (belongs Allowed) fixed both_allowed.0)))
 
-    fields_done : fields_judged k contents no_member 0 (entries count table) ≡ Fits 0
+    fields_done : fields_judged k contents no_member 0 (entries count table) ≡ Ok 0
     fields_done = kept_accepted k contents no_member 0 (entries count table) c.lent w.kept both_allowed.1
 
-    length_done : length_judged (length text) out ≡ Fits (length text)
+    length_done : length_judged (length text) out ≡ Ok (length text)
     unfolding length_judged
     length_done = rw (le-ltb most_bytes (length text) w.short, le-ltb (length out) (length text) c.room)
 
-    whole_done : write_judged fixed table count contents out ≡ Fits (length text)
+    whole_done : write_judged fixed table count contents out ≡ Ok (length text)
     whole_done =
         let few : count ≤ most_fields = omega (arith, as_many, w.few) in
         fixed_passed fixed table count contents out 0 fixed_done

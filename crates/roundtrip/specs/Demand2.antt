@@ -1,12 +1,10 @@
 -- Demand 2, the statements: exactly the records that `Record` lays down are read and written; read after write gives the fields, write after read the bytes.
-use Rattle.std.specs.Prelude.{ℕ, ◌*◌, ◌≤◌, ◌≡◌, List, ◌++◌, length, take, drop}
+use Rattle.std.specs.Prelude.{ℕ, ◌*◌, ◌≤◌, ◌≡◌, List, ◌++◌, length, take, drop, Ok, Some}
 use Rattle.record.specs.Layout.{most_fields, fixed_width, kind_of}
 use Rattle.record.specs.Answers.{checked_of}
 use Rattle.record.specs.Fields.{Optional}
 use Rattle.record.specs.Read.{entry_width, Outcome as Read, check, read_order, read_delivery, read_report}
-use Rattle.record.specs.declared.answer.Verdict.TheVariants.{Fits}
 use Rattle.record.specs.declared.layout.Kind.{Kind}
-use Rattle.record.specs.declared.layout.Kinded.TheVariants.{Known}
 use Rattle.record.specs.declared.values.Party.{Party}
 use Rattle.record.specs.declared.values.Article.{Article}
 use Rattle.record.specs.declared.values.Order.{Order}
@@ -33,7 +31,7 @@ LargeTable lent = most_fields * entry_width ≤ length lent
 
 -- a check of a text with any large table is done, and fills the table so that the IDs and contents it names in the text are these, in order
 pub record Tabled (text : List ℕ) (fields : List Optional) : Type 0 where
-  pub reads : (lent : List ℕ) → LargeTable lent → (read_call text lent).said ≡ checked_of (Fits (length fields))
+  pub reads : (lent : List ℕ) → LargeTable lent → (read_call text lent).said ≡ checked_of (Ok (length fields))
   pub fields_are_same : (lent : List ℕ) → LargeTable lent → optional_of text (entries (length fields) (read_call text lent).table) ≡ fields
 
 -- READ EXACTLY: the check answers 0 for the texts of records, where the table is large, and for nothing else
@@ -43,7 +41,7 @@ pub record ReadExactly (s lent : List ℕ) : Type 0 where
 
 -- with what stands in them: of parts that make a record the check finds the kind, the fixed part and the optional fields
 pub record ReadsParts (r : Parts) : Type 0 where
-  pub same_kind : kind_of (text_of r) ≡ Known r.kind
+  pub same_kind : kind_of (text_of r) ≡ Some r.kind
   pub same_fixed : take (length (fixed_part r)) (text_of r) ≡ fixed_part r
   pub same_optional : Tabled (text_of r) r.optional
 
@@ -78,7 +76,7 @@ pub record Demand2 : Type 0 where
   pub read_after_write : (fixed table : List ℕ) (count : ℕ) (contents out : List ℕ) → (write_call fixed table count contents out).said.answer ≡ 0
       → ReadsBack fixed table count contents (written (write_call fixed table count contents out))
   -- write after read gives the bytes
-  pub write_after_read : (k : Kind) (s lent out : List ℕ) → kind_of s ≡ Known k → (read_call s lent).said.answer ≡ 0 → length s ≤ length out
+  pub write_after_read : (k : Kind) (s lent out : List ℕ) → kind_of s ≡ Some k → (read_call s lent).said.answer ≡ 0 → length s ≤ length out
       → WritesBack (take (fixed_width k) s) (read_call s lent).table (read_call s lent).said.fields s out
 
 -- the arrays of a typed record have their widths, as those of every value of its type in the code do
@@ -116,15 +114,15 @@ pub record ReportShaped (m : Report) : Type 0 where
 
 -- what is written of a typed order reads back as it, with its optional fields
 pub record OrderReadsBack (o : Order) (table : List ℕ) (count : ℕ) (contents out : List ℕ) : Type 0 where
-  pub reads : read_order (written (write_call (order_bytes o) table count contents out)) ≡ record { checked = checked_of (Fits count); order = o }
+  pub reads : read_order (written (write_call (order_bytes o) table count contents out)) ≡ record { checked = checked_of (Ok count); order = o }
   pub fields : Tabled (written (write_call (order_bytes o) table count contents out)) (optional_of contents (entries count table))
 
 -- what is written of a typed delivery reads back as it, with its optional fields
 pub record DeliveryReadsBack (d : Delivery) (table : List ℕ) (count : ℕ) (contents out : List ℕ) : Type 0 where
-  pub reads : read_delivery (written (write_call (delivery_bytes d) table count contents out)) ≡ record { checked = checked_of (Fits count); delivery = d }
+  pub reads : read_delivery (written (write_call (delivery_bytes d) table count contents out)) ≡ record { checked = checked_of (Ok count); delivery = d }
   pub fields : Tabled (written (write_call (delivery_bytes d) table count contents out)) (optional_of contents (entries count table))
 
 -- what is written of a typed report reads back as it, with its optional fields
 pub record ReportReadsBack (m : Report) (table : List ℕ) (count : ℕ) (contents out : List ℕ) : Type 0 where
-  pub reads : read_report (written (write_call (report_bytes m) table count contents out)) ≡ record { checked = checked_of (Fits count); report = m }
+  pub reads : read_report (written (write_call (report_bytes m) table count contents out)) ≡ record { checked = checked_of (Ok count); report = m }
   pub fields : Tabled (written (write_call (report_bytes m) table count contents out)) (optional_of contents (entries count table))

@@ -1,5 +1,5 @@
 -- What a record of document 01 is, said of its parts and without a walk over its bytes: a kind, the fields of a fixed part, and optional fields.
-use Rattle.std.specs.Prelude.{ℕ, ◌*◌, ◌≤◌, ◌≡◌, Bool, true, false, ◌&&◌, List, [], ◌∷◌, eqb, ltb, length, take}
+use Rattle.std.specs.Prelude.{ℕ, ◌*◌, ◌≤◌, ◌≡◌, Bool, true, false, ◌&&◌, List, [], ◌∷◌, eqb, ltb, length, take, Some}
 use Rattle.cells.specs.Bytes.{all, joined}
 use Rattle.signs.specs.Class.{belongs}
 use Rattle.rules.specs.Rule.{keeps}
@@ -10,7 +10,6 @@ use Rattle.record.specs.Fields.{last_id, not_star, Optional}
 use Rattle.record.specs.Read.{entry_width}
 use Rattle.record.specs.declared.layout.Field.{Field}
 use Rattle.record.specs.declared.layout.Kind.{Kind}
-use Rattle.record.specs.declared.layout.Kinded.TheVariants.{Known}
 use Rattle.writing.specs.Write.{entries, optional_of, record_text}
 use Rattle.writing.specs.Widths.{all_inside}
 
@@ -55,7 +54,7 @@ optional_kept k before (f ∷ fs) =
 
 -- the parts make a record: the fixed part names the kind and keeps its layout, the optional fields are kept and at most so many, the whole is at most so long, and every byte is allowed
 pub record MakesRecord (r : Parts) : Type 0 where
-  pub named : kind_of (fixed_part r) ≡ Known r.kind
+  pub named : kind_of (fixed_part r) ≡ Some r.kind
   pub fixed_is_kept : fixed_kept (layout r.kind) r.fixed ≡ true
   pub optional_is_kept : optional_kept r.kind no_member r.optional ≡ true
   pub few : length r.optional ≤ most_fields

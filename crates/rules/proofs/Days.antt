@@ -14,32 +14,32 @@ use Rattle.signs.specs.Class.{digit, belongs, all_of}
 use Rattle.rules.specs.Day.{day_width, month_lengths, day_of, real_day, is_day, dated, day_kept}
 use Rattle.signs.specs.declared.Class.TheVariants.{Digit}
 use Rattle.rules.specs.declared.day.Day.{Day}
-use Rattle.rules.specs.declared.day.Dated.TheVariants.{Real, Unreal}
+use Rattle.std.specs.Prelude.{None, Some}
 
 -- what digits are judged to be, by the first test that fails: their number, each byte, the day
 module _ (s : List ℕ) where
   -- not eight bytes
-  pub dated_long : (length s ≡ 8 → ⊥) → dated s ≡ Unreal
+  pub dated_long : (length s ≡ 8 → ⊥) → dated s ≡ None
   unfolding dated is_day
   dated_long h = rw (ne_eqb (length s) 8 h)
 
   -- eight bytes, and one is no digit
-  pub dated_other : length s ≡ 8 → all_of Digit s ≡ false → dated s ≡ Unreal
+  pub dated_other : length s ≡ 8 → all_of Digit s ≡ false → dated s ≡ None
   unfolding dated is_day
   dated_other h e = rw (eq-eqb (length s) 8 h, e)
 
   -- eight digits, and there is no such day
-  pub dated_unreal : length s ≡ 8 → all_of Digit s ≡ true → real_day (day_of s) ≡ false → dated s ≡ Unreal
+  pub dated_unreal : length s ≡ 8 → all_of Digit s ≡ true → real_day (day_of s) ≡ false → dated s ≡ None
   unfolding dated is_day
   dated_unreal h e f = rw (eq-eqb (length s) 8 h, e, f)
 
   -- eight digits of a real day
-  pub dated_real : length s ≡ 8 → all_of Digit s ≡ true → real_day (day_of s) ≡ true → dated s ≡ Real (day_of s)
+  pub dated_real : length s ≡ 8 → all_of Digit s ≡ true → real_day (day_of s) ≡ true → dated s ≡ Some (day_of s)
   unfolding dated is_day
   dated_real h e f = rw (eq-eqb (length s) 8 h, e, f)
 
   -- a day is judged to be its own, and kept
-  pub dated_day : is_day s ≡ true → dated s ≡ Real (day_of s)
+  pub dated_day : is_day s ≡ true → dated s ≡ Some (day_of s)
   unfolding dated
   dated_day e = rw e
 
@@ -47,12 +47,12 @@ module _ (s : List ℕ) where
   kept_day e = rw (dated_day e)
 
   -- judged to be a real day, they are a day
-  pub real_day_law : (d : Day) → dated s ≡ Real d → is_day s ≡ true
+  pub real_day_law : (d : Day) → dated s ≡ Some d → is_day s ≡ true
   unfolding dated
   real_day_law d h = split (is_day s) (λ e. e) (λ e. let z = rw e at h in cc)
 
   -- judged to be none, they are none
-  pub no_day_law : dated s ≡ Unreal → is_day s ≡ false
+  pub no_day_law : dated s ≡ None → is_day s ≡ false
   unfolding dated
   no_day_law h = split (is_day s) (λ e. let z = rw e at h in cc) (λ e. e)
 

@@ -1,13 +1,11 @@
 -- Days of the Gregorian calendar (RULES 1.3).
-use Rattle.std.specs.Prelude.{ℕ, ◌%◌, Bool, not, ◌&&◌, ◌||◌, List, [], ◌∷◌, eqb, length, get_or}
+use Rattle.std.specs.Prelude.{ℕ, ◌%◌, Bool, not, ◌&&◌, ◌||◌, List, [], ◌∷◌, eqb, length, get_or, None, Option, Some}
 use Rattle.std.proofs.Math.Seq.{slice}
 use Rattle.cells.specs.Bytes.{pick, within}
 use Rattle.signs.specs.Class.{all_of}
 use Rattle.rules.specs.Number.{number}
 use Rattle.signs.specs.declared.Class.TheVariants.{Digit}
 use Rattle.rules.specs.declared.day.Day.{Day}
-use Rattle.rules.specs.declared.day.Dated.{Dated}
-use Rattle.rules.specs.declared.day.Dated.TheVariants.{Real, Unreal}
 
 abbrev pub first_year : ℕ
 first_year = 1
@@ -41,17 +39,17 @@ unfoldable pub is_day : List ℕ → Bool
 is_day s = eqb (length s) day_width && (all_of Digit s && real_day (day_of s))
 
 -- a day as its constructor judges digits
-unfoldable pub dated : List ℕ → Dated
-dated s = pick (is_day s) (Real (day_of s)) Unreal
+unfoldable pub dated : List ℕ → Option Day
+dated s = pick (is_day s) (Some (day_of s)) None
 
 -- the day 0 of month 0 of year 0, which is no real day
 abbrev pub no_day : Day
 no_day = record { year = 0; month = 0; day = 0 }
 
 -- a day as it was judged, and the day 0 where there is none
-abbrev pub day_in : Dated → Day
-day_in (Real d) = d
-day_in Unreal = no_day
+abbrev pub day_in : Option Day → Day
+day_in (Some d) = d
+day_in None = no_day
 
 -- the day that a typed value keeps: as the constructor judged it, and the day 0 of month 0 of year 0 where there is none
 abbrev pub day_kept : List ℕ → Day

@@ -14,13 +14,6 @@ pub struct Day {
     pub day: u64,
 }
 
-// Eight digits: a real day, or none.
-#[derive(Clone, Copy)]
-pub enum Dated {
-    Real(Day),
-    Unreal,
-}
-
 const FEBRUARY: u64 = 2;
 
 const LAST_MONTH: u64 = 12;
@@ -104,19 +97,19 @@ impl Day {
     }
 
     // A day from its digits, which are judged.
-    pub fn of_digits(s: &[u8]) -> Dated
+    pub fn of_digits(s: &[u8]) -> Option<Day>
         ensures { result ≡ dated s.now }
     {
         if s.len() != Day::WIDTH {
-            return Dated::Unreal;
+            return None;
         }
         if !are_digits(s) {
-            return Dated::Unreal;
+            return None;
         }
         let day = day_parts(s);
         if !day.is_real() {
-            return Dated::Unreal;
+            return None;
         }
-        Dated::Real(day)
+        Some(day)
     }
 }

@@ -2,7 +2,7 @@
 ghost use Rattle.std.specs.Prelude.{◌≡◌};
 ghost use Rattle.rules.specs.Values.{expected_of};
 
-use crate::day::{Dated, Day};
+use crate::day::{Day};
 use signs::{Class, all_of};
 
 // A day, eight zeros (document 001) or eight blanks (document 004); which of the three it was is kept.
@@ -17,8 +17,8 @@ pub fn expected_of(s: &[u8]) -> Expected
     ensures { result ≡ expected_of s.now }
 {
     match Day::of_digits(s) {
-        Dated::Real(day) => Expected::On(day),
-        Dated::Unreal => {
+        Some(day) => Expected::On(day),
+        None => {
             if all_of(Class::Blank, s) {
                 return Expected::Blanks;
             }

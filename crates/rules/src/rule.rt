@@ -6,7 +6,7 @@ ghost use Rattle.rules.specs.Day.{is_day};
 ghost use Rattle.rules.specs.Rule.{row_texts, texts, day_count, expected, keeps};
 
 use crate::article::is_article;
-use crate::day::{Dated, Day};
+use crate::day::{Day};
 use crate::number::number_of;
 use cells::{part, same};
 use signs::{Class, is_named, is_padded, of_class};
@@ -99,8 +99,8 @@ pub fn is_day(s: &[u8]) -> bool
     ensures { result ≡ is_day s.now }
 {
     match Day::of_digits(s) {
-        Dated::Real(_) => true,
-        Dated::Unreal => false,
+        Some(_) => true,
+        None => false,
     }
 }
 

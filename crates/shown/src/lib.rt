@@ -2,7 +2,7 @@
 #![tactic(auto)]
 
 use reader::{read_delivery, read_order, read_report};
-use record::layout::{Kind, Kinded, kind_of};
+use record::layout::{Kind, kind_of};
 use record::values::{Article, Delivery, Order, Party, Report};
 use rules::day::Day;
 use rules::expected::Expected;
@@ -157,12 +157,12 @@ fn show_report<W: Write>(out: &mut W, r: Report) -> io::Result<()> {
 
 pub fn show_values<W: Write>(out: &mut W, s: &[u8]) -> io::Result<()> {
     match kind_of(s) {
-        Kinded::Known(k) => match k {
+        Some(k) => match k {
             Kind::Order => show_order(out, read_order(s).order),
             Kind::Goods => show_delivery(out, read_delivery(s).delivery),
             Kind::Closing => show_delivery(out, read_delivery(s).delivery),
             Kind::Report => show_report(out, read_report(s).report),
         },
-        Kinded::Unknown => text(out, b"  unknown kind\n"),
+        None => text(out, b"  unknown kind\n"),
     }
 }

@@ -10,8 +10,8 @@ use Rattle.record.specs.Fields.{Optional}
 use Rattle.record.specs.Read.{judged, entry_width, optional_start, optional_fields, Outcome, outcome as checks, check}
 use Rattle.record.specs.declared.answer.Checked.{Checked}
 use Rattle.record.specs.declared.answer.Refusal.{Refusal as Fault}
-use Rattle.record.specs.declared.answer.Verdict.{Verdict as Judged}
-use Rattle.record.specs.declared.answer.Verdict.TheVariants.{Refused as NoRecord, Fits as Holds}
+use Rattle.record.specs.Verdicts.{Verdict as Judged}
+use Rattle.std.specs.Prelude.{Err, Ok}
 use Rattle.reader.proofs.Fitting.{fits_known}
 use Rattle.reader.proofs.Stages.{check_refused, check_fits}
 use Rattle.writing.specs.Widths.{all_inside}
@@ -25,35 +25,34 @@ use Rattle.parts.specs.Answers.{read_of}
 use Rattle.parts.specs.Read.{loops_judged, parts_judged, outcome, room_after, bundle_read, read_parts}
 use Rattle.parts.specs.declared.answer.Refusal.{Refusal}
 use Rattle.parts.specs.declared.answer.Refusal.TheVariants.{SmallRoom}
-use Rattle.parts.specs.declared.answer.Verdict.TheVariants.{Refused, Fits}
 
 module _ (s room : List ℕ) where
   -- 23
-  pub small_room : length room < most_parts * part_width → read_parts s room ≡ outcome (read_of (Refused SmallRoom)) room
+  pub small_room : length room < most_parts * part_width → read_parts s room ≡ outcome (read_of (Err SmallRoom)) room
   unfolding read_parts
   small_room h = rw (lt-ltb _ _ h)
 
   module _ (wide : most_parts * part_width ≤ length room) where
     -- 1 to 10
-    no_record : (r : Fault) → judged s ≡ NoRecord r
+    no_record : (r : Fault) → judged s ≡ Err r
         → read_parts s room ≡ outcome (record { answer = refusal_number r; place = refusal_place r; parts = 0 }) room
     unfolding read_parts bundle_read
     no_record r e = rw (le-ltb _ _ wide, e)
 
     -- a record with n optional fields: no bundle has no parts, and leaves the room as it was
-    module _ (n : ℕ) (e : judged s ≡ Holds n) where
-      pub no_bundle : is_bundle s ≡ false → read_parts s room ≡ outcome (read_of (Fits 0)) room
+    module _ (n : ℕ) (e : judged s ≡ Ok n) where
+      pub no_bundle : is_bundle s ≡ false → read_parts s room ≡ outcome (read_of (Ok 0)) room
       unfolding read_parts bundle_read parts_judged room_after parts_of room_of
       no_bundle b = rw (le-ltb _ _ wide, e, b)
 
       -- 26 and 27, or the parts in front of the room
       module _ (b : is_bundle s ≡ true) (fs : List Optional) (named : fs ≡ optional_fields n s) where
-        pub parts_refused_law : (r : Refusal) → loops_judged (loops_of fs) ≡ Refused r → read_parts s room ≡ outcome (read_of (Refused r)) room
+        pub parts_refused_law : (r : Refusal) → loops_judged (loops_of fs) ≡ Err r → read_parts s room ≡ outcome (read_of (Err r)) room
         unfolding read_parts bundle_read parts_judged room_after
         parts_refused_law r j = rw (le-ltb _ _ wide, e, b, ← named, j)
 
-        pub parts_read_law : (m : ℕ) → loops_judged (loops_of fs) ≡ Fits m
-            → read_parts s room ≡ outcome (read_of (Fits m)) (room_of (parts_of m (loops_of fs)) ++ drop (m * part_width) room)
+        pub parts_read_law : (m : ℕ) → loops_judged (loops_of fs) ≡ Ok m
+            → read_parts s room ≡ outcome (read_of (Ok m)) (room_of (parts_of m (loops_of fs)) ++ drop (m * part_width) room)
         unfolding read_parts bundle_read parts_judged room_after
         parts_read_law m j = rw (le-ltb _ _ wide, e, b, ← named, j)
 
@@ -66,10 +65,10 @@ module _ (s lent : List ℕ) (large : LargeTable lent) (r : Checked) (t : List �
   by_verdict : (room : List ℕ) → most_parts * part_width ≤ length room → (r.answer ≡ 0 → ⊥) → (v : Judged) → judged s ≡ v
       → read_parts s room ≡ outcome (record { answer = r.answer; place = r.place; parts = 0 }) room
   unfolding checked_of
-  by_verdict room wide h (NoRecord x) e =
-      let k : r ≡ checked_of (NoRecord x) = said ∙ ap (λ (o : Outcome). o.said) (check_refused s lent large x e) in
+  by_verdict room wide h (Err x) e =
+      let k : r ≡ checked_of (Err x) = said ∙ ap (λ (o : Outcome). o.said) (check_refused s lent large x e) in
       no_record s room wide x e ∙ rw k
-  by_verdict room wide h (Holds n) e = absurd (h (ap (λ (c : Checked). c.answer) (said ∙ fits_said s lent large n e)))
+  by_verdict room wide h (Ok n) e = absurd (h (ap (λ (c : Checked). c.answer) (said ∙ fits_said s lent large n e)))
 
   pub not_read : (room : List ℕ) → most_parts * part_width ≤ length room → (r.answer ≡ 0 → ⊥)
       → read_parts s room ≡ outcome (record { answer = r.answer; place = r.place; parts = 0 }) room
@@ -77,11 +76,11 @@ module _ (s lent : List ℕ) (large : LargeTable lent) (r : Checked) (t : List �
 
   -- with answer 0 the record fits, with as many fields as are told
   module _ (a : r.answer ≡ 0) where
-    pub record_holds : judged s ≡ Holds r.fields
+    pub record_holds : judged s ≡ Ok r.fields
     unfolding checked_of
     record_holds =
         let d = check_done s lent (ap (λ (c : Checked). c.answer) (sym said) ∙ a) in
-        d.1 ∙ ap (λ (c : Checked). Holds c.fields) (sym (said ∙ fits_said s lent large d.0 d.1))
+        d.1 ∙ ap (λ (c : Checked). Ok c.fields) (sym (said ∙ fits_said s lent large d.0 d.1))
 
     left_so : t ≡ (check s lent).table
     left_so = ap (λ (o : Outcome). o.table) q

@@ -19,7 +19,7 @@ use Rattle.parts.specs.Entries.{others_among}
 use Rattle.parts.specs.Loops.{part_id, loop_fields, most_parts, are_loops, loops_of, loop_count, whole_loops}
 use Rattle.parts.specs.Read.{loops_judged}
 use Rattle.parts.specs.declared.answer.Refusal.TheVariants.{Broken, TooMany}
-use Rattle.parts.specs.declared.answer.Verdict.TheVariants.{Refused, Fits}
+use Rattle.std.specs.Prelude.{Err, Ok}
 use Rattle.parts.proofs.Members.{others_named}
 
 -- no more entries stand before the loops than there are
@@ -59,31 +59,31 @@ module _ (contents table : List ℕ) (count first : ℕ) (q : first ≡ others_a
 
 -- 26, then 27, of n fields
 module _ (fs : List Optional) (n : ℕ) (long : length fs ≡ n) where
-  pub loops_none : n ≡ 0 → loops_judged fs ≡ Refused Broken
+  pub loops_none : n ≡ 0 → loops_judged fs ≡ Err Broken
   unfolding loops_judged
   loops_none e = rw (long, eq-eqb _ _ e)
 
   module _ (some : n ≡ 0 → ⊥) where
-    pub loops_uneven : (n % loop_fields ≡ 0 → ⊥) → loops_judged fs ≡ Refused Broken
+    pub loops_uneven : (n % loop_fields ≡ 0 → ⊥) → loops_judged fs ≡ Err Broken
     unfolding loops_judged whole_loops
     loops_uneven h = rw (long, ne_eqb _ _ some, ne_eqb _ _ h)
 
     module _ (even : n % loop_fields ≡ 0) where
-      pub loops_broken : are_loops (n / loop_fields) fs ≡ false → loops_judged fs ≡ Refused Broken
+      pub loops_broken : are_loops (n / loop_fields) fs ≡ false → loops_judged fs ≡ Err Broken
       unfolding loops_judged whole_loops
       loops_broken h = rw (long, ne_eqb _ _ some, eq-eqb _ _ even, h)
 
       module _ (whole : are_loops (n / loop_fields) fs ≡ true) where
-        pub loops_many : most_parts < n / loop_fields → loops_judged fs ≡ Refused TooMany
+        pub loops_many : most_parts < n / loop_fields → loops_judged fs ≡ Err TooMany
         unfolding loops_judged whole_loops
         loops_many h = rw (long, ne_eqb _ _ some, eq-eqb _ _ even, whole, lt-ltb _ _ h)
 
-        pub loops_fit : n / loop_fields ≤ most_parts → loops_judged fs ≡ Fits (n / loop_fields)
+        pub loops_fit : n / loop_fields ≤ most_parts → loops_judged fs ≡ Ok (n / loop_fields)
         unfolding loops_judged whole_loops
         loops_fit h = rw (long, ne_eqb _ _ some, eq-eqb _ _ even, whole, le-ltb _ _ h)
 
 -- fields that n parts are told of passed the tests
-told : (a b c : Bool) (m n : ℕ) → pick a (Refused Broken) (pick b (pick c (Refused TooMany) (Fits m)) (Refused Broken)) ≡ Fits n
+told : (a b c : Bool) (m n : ℕ) → pick a (Err Broken) (pick b (pick c (Err TooMany) (Ok m)) (Err Broken)) ≡ Ok n
     → (b ≡ true) × (c ≡ false) × (m ≡ n)
 told true b c m n e = let z : ◌≡◌ {A = ℕ} 0 1 = cc in absurd (omega arith)
 told false true true m n e = let z : ◌≡◌ {A = ℕ} 0 1 = cc in absurd (omega arith)
@@ -91,7 +91,7 @@ told false true false m n e = (refl, refl, cc)
 told false false c m n e = let z : ◌≡◌ {A = ℕ} 0 1 = cc in absurd (omega arith)
 
 -- so whole loops, and how many
-loops_told : (fs : List Optional) (n : ℕ) → loops_judged fs ≡ Fits n → (length fs ≡ n * loop_fields) × (n ≤ most_parts)
+loops_told : (fs : List Optional) (n : ℕ) → loops_judged fs ≡ Ok n → (length fs ≡ n * loop_fields) × (n ≤ most_parts)
 unfolding loops_judged whole_loops
 loops_told fs n e =
     let t = told (eqb (length fs) 0) (whole_loops fs) (ltb most_parts (loop_count fs)) (loop_count fs) n e in
@@ -101,7 +101,7 @@ loops_told fs n e =
     (omega (arith, even, k), omega (arith, few, k))
 
 -- a table's fields with n parts, where its last n loops stand
-module _ (contents table : List ℕ) (count n : ℕ) (e : loops_judged (loops_of (optional_of contents (entries count table))) ≡ Fits n) where
+module _ (contents table : List ℕ) (count n : ℕ) (e : loops_judged (loops_of (optional_of contents (entries count table))) ≡ Ok n) where
   -- as many fields are left as n loops have
   long : count - others_among (entries count table) ≡ n * loop_fields
   long = sym (loops_long contents table count _ refl) ∙ (loops_told _ n e).0

@@ -32,19 +32,19 @@ fn judge_loops(contents: &[u8], table: &[usize], count: usize) -> Verdict
     let first = others_among(table, count);
     let left = count - first;
     if left == 0 {
-        return Verdict::Refused(Refusal::Broken);
+        return Err(Refusal::Broken);
     }
     if left % LOOP_FIELDS != 0 {
-        return Verdict::Refused(Refusal::Broken);
+        return Err(Refusal::Broken);
     }
     let n = left / LOOP_FIELDS;
     if !are_loops(contents, table, first, n) {
-        return Verdict::Refused(Refusal::Broken);
+        return Err(Refusal::Broken);
     }
     if MOST_PARTS < n {
-        return Verdict::Refused(Refusal::TooMany);
+        return Err(Refusal::TooMany);
     }
-    Verdict::Fits(n)
+    Ok(n)
 }
 
 // The parts of n loops from an index on, into the room.
@@ -66,7 +66,7 @@ pub fn read_parts(s: &[u8], room: &mut [u8]) -> PartsRead
     ensures { outcome result room.new ≡ read_parts s.now room.old }
 {
     if room.len() < MOST_PARTS * PART_WIDTH {
-        return read_of(Verdict::Refused(Refusal::SmallRoom));
+        return read_of(Err(Refusal::SmallRoom));
     }
     // Entries that name no field; zeros would be a call of memset.
     let mut table = [LAST_ID; FULL_TABLE];
@@ -79,14 +79,14 @@ pub fn read_parts(s: &[u8], room: &mut [u8]) -> PartsRead
         };
     }
     if !is_bundle(s) {
-        return read_of(Verdict::Fits(0));
+        return read_of(Ok(0));
     }
     let count = checked.fields;
     match judge_loops(s, &table, count) {
-        Verdict::Refused(r) => read_of(Verdict::Refused(r)),
-        Verdict::Fits(n) => {
+        Err(r) => read_of(Err(r)),
+        Ok(n) => {
             fill(s, &table, count - n * LOOP_FIELDS, n, room);
-            read_of(Verdict::Fits(n))
+            read_of(Ok(n))
         }
     }
 }

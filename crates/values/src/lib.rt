@@ -16,7 +16,7 @@ use record::places::{
 };
 use record::values::{Article, Delivery, Order, Party, Report};
 use rules::amount::{Copies, Discount, Price, copies_of, discount_of, price_of};
-use rules::day::{Dated, Day};
+use rules::day::{Day};
 use rules::expected::{Expected, expected_of};
 use rules::number::number_of;
 
@@ -101,8 +101,8 @@ fn day_of(s: &[u8]) -> Day
     ensures { result ≡ day_kept s.now }
 {
     match Day::of_digits(s) {
-        Dated::Real(day) => day,
-        Dated::Unreal => no_day(),
+        Some(day) => day,
+        None => no_day(),
     }
 }
 

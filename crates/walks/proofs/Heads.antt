@@ -14,7 +14,7 @@ use Rattle.signs.specs.Class.{all_of, of_class}
 use Rattle.rules.specs.Number.{number}
 use Rattle.signs.specs.declared.Class.TheVariants.{Digit}
 use Rattle.record.specs.Fields.{head_of, id_in, id_of}
-use Rattle.record.specs.declared.fields.Head.TheVariants.{Id, Missing}
+use Rattle.std.specs.Prelude.{None, Some}
 
 -- what stands at a place, by the first test that fails
 module _ (s : List ℕ) (at : ℕ) where
@@ -42,32 +42,32 @@ module _ (s : List ℕ) (at : ℕ) where
   first = get_or-drop at s 0 0 ∙ ap (λ (k : ℕ). get_or s k 0) (add-zero at)
 
   -- too few bytes are left
-  pub head_short : length s - at < 5 → head_of (drop at s) ≡ Missing
+  pub head_short : length s - at < 5 → head_of (drop at s) ≡ None
   unfolding head_of
   head_short h = simp (digits, few h, and_false)
 
   -- no star stands there
-  pub head_other : (get_or s at 0 ≡ 42 → ⊥) → head_of (drop at s) ≡ Missing
+  pub head_other : (get_or s at 0 ≡ 42 → ⊥) → head_of (drop at s) ≡ None
   unfolding head_of
   head_other h = simp (first, ne_eqb (get_or s at 0) 42 h)
 
   module _ (l : 5 ≤ length s - at) where
     -- the four bytes after the first are not all digits
-    pub head_letters : all_of Digit (slice (at + 1) (at + 5) s) ≡ false → head_of (drop at s) ≡ Missing
+    pub head_letters : all_of Digit (slice (at + 1) (at + 5) s) ≡ false → head_of (drop at s) ≡ None
     unfolding head_of
     head_letters e = simp (digits, four l, e, and_false)
 
     -- a star and four digits stand there
-    pub head_id : get_or s at 0 ≡ 42 → all_of Digit (slice (at + 1) (at + 5) s) ≡ true → head_of (drop at s) ≡ Id (number (slice (at + 1) (at + 5) s))
+    pub head_id : get_or s at 0 ≡ 42 → all_of Digit (slice (at + 1) (at + 5) s) ≡ true → head_of (drop at s) ≡ Some (number (slice (at + 1) (at + 5) s))
     unfolding head_of
     head_id h e = simp (first, eq-eqb (get_or s at 0) 42 h, digits, four l, e)
 
 -- the ID of a field that stands there
-pub id_of_law : (t : List ℕ) (id : ℕ) → head_of t ≡ Id id → id_of t ≡ id
+pub id_of_law : (t : List ℕ) (id : ℕ) → head_of t ≡ Some id → id_of t ≡ id
 unfolding id_of id_in
 id_of_law t id e = rw e
 
 -- 0 where none does
-pub no_id : (t : List ℕ) → head_of t ≡ Missing → id_of t ≡ 0
+pub no_id : (t : List ℕ) → head_of t ≡ None → id_of t ≡ 0
 unfolding id_of id_in
 no_id t e = rw e

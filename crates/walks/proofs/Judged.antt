@@ -10,12 +10,12 @@ use Rattle.rules.specs.Rule.{keeps}
 use Rattle.record.specs.Contents.{content_rule, guarded, content_kept, group_kept}
 use Rattle.record.specs.Fields.{id_of, content_of, judge}
 use Rattle.record.specs.declared.answer.Refusal.TheVariants.{Content, Group}
-use Rattle.record.specs.declared.answer.Verdict.TheVariants.{Refused, Fits}
+use Rattle.std.specs.Prelude.{Err, Ok}
 use Rattle.record.specs.declared.layout.Kind.{Kind}
 use Rattle.walks.proofs.Contents.{end_of, field_end, field_after, field_content, barred_from}
 
 -- no field is left
-pub judge_end : (k : Kind) (n i before p : ℕ) (t : List ℕ) → n ≤ i → judge k (n - i) before p t ≡ Fits 0
+pub judge_end : (k : Kind) (n i before p : ℕ) (t : List ℕ) → n ≤ i → judge k (n - i) before p t ≡ Ok 0
 unfolding judge
 judge_end k n i before p t h =
     let q : n - i ≡ 0 = omega arith in
@@ -33,7 +33,7 @@ module _ (k : Kind) (n i : ℕ) (l : i < n) (s : List ℕ) (at before id : ℕ) 
   barred_not b = rw (field_content s at, ← g, b)
 
   -- it holds a byte that it may not
-  pub judge_barred : barred_from guard s (at + 5) ≡ true → judge k (n - i) before at (drop at s) ≡ Refused (Content at)
+  pub judge_barred : barred_from guard s (at + 5) ≡ true → judge k (n - i) before at (drop at s) ≡ Err (Content at)
   unfolding judge
   judge_barred b = rw (left, ← d, barred_not b)
 
@@ -45,13 +45,13 @@ module _ (k : Kind) (n i : ℕ) (l : i < n) (s : List ℕ) (at before id : ℕ) 
     kept_by = rw (field_content s at, ← g, b, q, ← e)
 
     -- its content breaks the rule
-    pub judge_content : keeps (content_rule id) [] content ≡ false → judge k (n - i) before at (drop at s) ≡ Refused (Content at)
+    pub judge_content : keeps (content_rule id) [] content ≡ false → judge k (n - i) before at (drop at s) ≡ Err (Content at)
     unfolding judge
     judge_content r = rw (left, ← d, kept_by, r)
 
     module _ (r : keeps (content_rule id) [] content ≡ true) (after : ℕ) (a : after ≡ id_of (drop end s)) where
       -- its content keeps the rule, and its group is broken
-      pub judge_group : group_kept before id after ≡ false → judge k (n - i) before at (drop at s) ≡ Refused (Group at)
+      pub judge_group : group_kept before id after ≡ false → judge k (n - i) before at (drop at s) ≡ Err (Group at)
       unfolding judge
       judge_group u = rw (left, ← d, kept_by, r, field_after s at, q, ← a, u)
 

@@ -12,29 +12,29 @@ ghost use Rattle.record.specs.Read.{entry_width};
 use cells::part;
 use record::answer::{Refusal, Verdict};
 use record::contents::{NO_MEMBER, group_kept, is_barred, is_guarded, rule_kept};
-use record::fields::{ENTRY_WIDTH, HEAD_WIDTH, Head, LAST_ID};
+use record::fields::{ENTRY_WIDTH, HEAD_WIDTH, LAST_ID};
 use record::layout::{Kind, MOST_FIELDS};
 use rules::number::number_of;
 use signs::{Class, STAR, all_of};
 
 // What stands at a place where an optional field should start.
-pub fn head_at(s: &[u8], at: usize) -> Head
+pub fn head_at(s: &[u8], at: usize) -> Option<usize>
     ensures { result ≡ head_of (drop at s.now) }
 {
     if s.len() <= at {
-        return Head::Missing;
+        return None;
     }
     if s.len() - at < HEAD_WIDTH {
-        return Head::Missing;
+        return None;
     }
     if s[at] != STAR {
-        return Head::Missing;
+        return None;
     }
     let digits = part(s, at + 1, at + HEAD_WIDTH);
     if !all_of(Class::Digit, digits) {
-        return Head::Missing;
+        return None;
     }
-    Head::Id(number_of(digits) as usize)
+    Some(number_of(digits) as usize)
 }
 
 // The ID of the field at a place, 0 where none stands.
@@ -42,8 +42,8 @@ pub fn id_at(s: &[u8], at: usize) -> usize
     ensures { result ≡ id_of (drop at s.now) }
 {
     match head_at(s, at) {
-        Head::Id(id) => id,
-        Head::Missing => 0,
+        Some(id) => id,
+        None => 0,
     }
 }
 
@@ -53,36 +53,36 @@ pub fn walk(s: &[u8], from: usize) -> Verdict
 {
     let mut at = from;
     let mut n: usize = 0;
-    let mut found = Verdict::Fits(0);
+    let mut found = Ok(0);
     'fields: loop {
         if s.len() <= at {
-            found = Verdict::Refused(Refusal::LastField(at));
+            found = Err(Refusal::LastField(at));
             break 'fields;
         }
         match head_at(s, at) {
-            Head::Missing => {
-                found = Verdict::Refused(Refusal::NoField(at));
+            None => {
+                found = Err(Refusal::NoField(at));
                 break 'fields;
             }
-            Head::Id(id) => {
+            Some(id) => {
                 if id == LAST_ID {
                     if at + HEAD_WIDTH == s.len() {
-                        found = Verdict::Fits(n);
+                        found = Ok(n);
                     } else {
-                        found = Verdict::Refused(Refusal::LastField(at));
+                        found = Err(Refusal::LastField(at));
                     }
                     break 'fields;
                 }
             }
         }
         if n == MOST_FIELDS {
-            found = Verdict::Refused(Refusal::TooManyFields(at));
+            found = Err(Refusal::TooManyFields(at));
             break 'fields;
         }
         let mut end = at + HEAD_WIDTH;
         'content: loop {
             if s.len() <= end {
-                found = Verdict::Refused(Refusal::LastField(end));
+                found = Err(Refusal::LastField(end));
                 break 'fields;
             }
             if s[end] == STAR {
@@ -105,10 +105,10 @@ pub fn judge(k: Kind, n: usize, s: &[u8], from: usize) -> Verdict
     let mut id = id_at(s, from);
     let mut before: usize = NO_MEMBER;
     let mut i: usize = 0;
-    let mut found = Verdict::Fits(0);
+    let mut found = Ok(0);
     'fields: loop {
         if i == n {
-            found = Verdict::Fits(0);
+            found = Ok(0);
             break 'fields;
         }
         let guard = is_guarded(k, id);
@@ -119,18 +119,18 @@ pub fn judge(k: Kind, n: usize, s: &[u8], from: usize) -> Verdict
                 break 'content;
             }
             if is_barred(guard, s[end]) {
-                found = Verdict::Refused(Refusal::Content(at));
+                found = Err(Refusal::Content(at));
                 break 'fields;
             }
             end += 1;
         }
         if !rule_kept(id, part(s, start, end)) {
-            found = Verdict::Refused(Refusal::Content(at));
+            found = Err(Refusal::Content(at));
             break 'fields;
         }
         let after = id_at(s, end);
         if !group_kept(before, id, after) {
-            found = Verdict::Refused(Refusal::Group(at));
+            found = Err(Refusal::Group(at));
             break 'fields;
         }
         before = id;

@@ -12,7 +12,7 @@ ghost use Rattle.writing.specs.Write.{length_judged, rest_judged, write_judged, 
 use crate::output::put_record;
 use fixed::{delivery_bytes, order_bytes, report_bytes};
 use record::fields::ENTRY_WIDTH;
-use record::layout::{Kinded, MOST_BYTES, MOST_FIELDS, kind_of};
+use record::layout::{MOST_BYTES, MOST_FIELDS, kind_of};
 use record::values::{Delivery, Order, Report};
 use writing::answer::{Refusal, Verdict, Written, written_of};
 use writing::entries::{judge_fields, record_width};
@@ -24,17 +24,17 @@ fn judge_rest(fixed: &[u8], table: &[usize], count: usize, contents: &[u8], out:
     ensures { result ≡ rest_judged (kind_of fixed.now) fixed.now table.now count contents.now out.now }
 {
     match kind_of(fixed) {
-        Kinded::Unknown => Verdict::Refused(Refusal::FixedField(0)),
-        Kinded::Known(k) => {
+        None => Err(Refusal::FixedField(0)),
+        Some(k) => {
             if MOST_FIELDS < count {
-                return Verdict::Refused(Refusal::TooManyFields);
+                return Err(Refusal::TooManyFields);
             }
             if table.len() < count * ENTRY_WIDTH {
-                return Verdict::Refused(Refusal::SmallTable);
+                return Err(Refusal::SmallTable);
             }
             match judge_fields(k, table, count, contents) {
-                Verdict::Refused(r) => Verdict::Refused(r),
-                Verdict::Fits(_) => judge_length(record_width(fixed.len(), table, count), out),
+                Err(r) => Err(r),
+                Ok(_) => judge_length(record_width(fixed.len(), table, count), out),
             }
         }
     }
@@ -45,12 +45,12 @@ pub fn judge_length(n: usize, out: &[u8]) -> Verdict
     ensures { result ≡ length_judged n out.now }
 {
     if MOST_BYTES < n {
-        return Verdict::Refused(Refusal::TooLong);
+        return Err(Refusal::TooLong);
     }
     if out.len() < n {
-        return Verdict::Refused(Refusal::SmallOutput);
+        return Err(Refusal::SmallOutput);
     }
-    Verdict::Fits(n)
+    Ok(n)
 }
 
 // The first refusal of writing, or the length of the record.
@@ -64,8 +64,8 @@ pub fn judge_write(
     ensures { result ≡ write_judged fixed.now table.now count contents.now out.now }
 {
     match judge_fixed(fixed) {
-        Verdict::Refused(r) => Verdict::Refused(r),
-        Verdict::Fits(_) => judge_rest(fixed, table, count, contents, out),
+        Err(r) => Err(r),
+        Ok(_) => judge_rest(fixed, table, count, contents, out),
     }
 }
 
@@ -80,10 +80,10 @@ pub fn write(
     ensures { outcome result out.new ≡ write fixed.now table.now count contents.now out.old }
 {
     match judge_write(fixed, table, count, contents, out) {
-        Verdict::Refused(r) => written_of(Verdict::Refused(r)),
-        Verdict::Fits(n) => {
+        Err(r) => written_of(Err(r)),
+        Ok(n) => {
             put_record(out, fixed, table, count, contents);
-            written_of(Verdict::Fits(n))
+            written_of(Ok(n))
         }
     }
 }

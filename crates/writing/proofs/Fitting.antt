@@ -14,41 +14,39 @@ use Rattle.record.specs.Layout.{most_bytes, most_fields, layout, fixed_width, ki
 use Rattle.record.specs.Contents.{no_member, group_kept}
 use Rattle.record.specs.Read.{entry_width}
 use Rattle.record.specs.declared.layout.Kind.{Kind}
-use Rattle.record.specs.declared.layout.Kinded.{Kinded}
-use Rattle.record.specs.declared.layout.Kinded.TheVariants.{Known, Unknown}
+use Rattle.std.specs.Prelude.{Err, None, Ok, Option, Some}
 use Rattle.record.proofs.Layouts.{total_most}
 use Rattle.writing.specs.Widths.{width_after, all_inside}
 use Rattle.writing.specs.Write.{◌next◌, first_faulty, fixed_judged, entries, optional_of, next_id, entry_kept, fields_judged, record_text, length_judged, rest_judged, write_judged}
 use Rattle.writing.specs.declared.answer.Refusal.{Refusal}
-use Rattle.writing.specs.declared.answer.Verdict.{Verdict}
-use Rattle.writing.specs.declared.answer.Verdict.TheVariants.{Refused, Fits}
+use Rattle.writing.specs.Verdicts.{Verdict}
 use Rattle.writing.specs.declared.entries.Entry.{Entry}
 use Rattle.writing.proofs.Contents.{kept_inside}
 use Rattle.writing.proofs.Widths.{record_wide}
 
 -- a test that refuses where it holds, or where it does not, and does not refuse
-refuses_true : (b : Bool) (r : Refusal) (v : Verdict) (n : ℕ) → pick b (Refused r) v ≡ Fits n → (b ≡ false) × (v ≡ Fits n)
+refuses_true : (b : Bool) (r : Refusal) (v : Verdict) (n : ℕ) → pick b (Err r) v ≡ Ok n → (b ≡ false) × (v ≡ Ok n)
 refuses_true true r v n e = let z : ◌≡◌ {A = ℕ} 0 1 = cc in absurd (omega arith)
 refuses_true false r v n e = (refl, e)
 
-pub refuses_false : (b : Bool) (v : Verdict) (r : Refusal) (n : ℕ) → pick b v (Refused r) ≡ Fits n → (b ≡ true) × (v ≡ Fits n)
+pub refuses_false : (b : Bool) (v : Verdict) (r : Refusal) (n : ℕ) → pick b v (Err r) ≡ Ok n → (b ≡ true) × (v ≡ Ok n)
 refuses_false true v r n e = (refl, e)
 refuses_false false v r n e = let z : ◌≡◌ {A = ℕ} 0 1 = cc in absurd (omega arith)
 
 -- a verdict that fits after a stage: the stage fits too, and so does the rest
-then_first : (a b : Verdict) (n : ℕ) → (a next b) ≡ Fits n → (m : ℕ) × (a ≡ Fits m)
+then_first : (a b : Verdict) (n : ℕ) → (a next b) ≡ Ok n → (m : ℕ) × (a ≡ Ok m)
 unfolding ◌next◌
-then_first (Refused r) b n e = let z : ◌≡◌ {A = ℕ} 0 1 = cc in absurd (omega arith)
-then_first (Fits m) b n e = (m, refl)
+then_first (Err r) b n e = let z : ◌≡◌ {A = ℕ} 0 1 = cc in absurd (omega arith)
+then_first (Ok m) b n e = (m, refl)
 
-then_second : (a b : Verdict) (n : ℕ) → (a next b) ≡ Fits n → b ≡ Fits n
+then_second : (a b : Verdict) (n : ℕ) → (a next b) ≡ Ok n → b ≡ Ok n
 unfolding ◌next◌
-then_second (Refused r) b n e = let z : ◌≡◌ {A = ℕ} 0 1 = cc in absurd (omega arith)
-then_second (Fits m) b n e = e
+then_second (Err r) b n e = let z : ◌≡◌ {A = ℕ} 0 1 = cc in absurd (omega arith)
+then_second (Ok m) b n e = e
 
 -- fields that fit: each content stands inside the lent bytes
 pub fields_inside : (k : Kind) (contents : List ℕ) (before i : ℕ) (es : List Entry) (m : ℕ)
-    → fields_judged k contents before i es ≡ Fits m → all_inside contents es ≡ true
+    → fields_judged k contents before i es ≡ Ok m → all_inside contents es ≡ true
 unfolding fields_judged all_inside
 fields_inside k contents before i [] m h = refl
 fields_inside k contents before i (e ∷ es) m h =
@@ -57,52 +55,52 @@ fields_inside k contents before i (e ∷ es) m h =
     rw (kept_inside contents e k a.0) (fields_inside k contents e.id (i + 1) es m b.1)
 
 -- a fixed part that fits is of a kind, as long as that, and without a faulty field
-pub fixed_known : (j : Kinded) (fixed : List ℕ) (m : ℕ) → fixed_judged j fixed ≡ Fits m
-    → (k : Kind) × (j ≡ Known k) × (length fixed ≡ fixed_width k) × (first_faulty k fixed ≡ length (layout k))
+pub fixed_known : (j : Option Kind) (fixed : List ℕ) (m : ℕ) → fixed_judged j fixed ≡ Ok m
+    → (k : Kind) × (j ≡ Some k) × (length fixed ≡ fixed_width k) × (first_faulty k fixed ≡ length (layout k))
 unfolding fixed_judged
-fixed_known Unknown fixed m e = let z : ◌≡◌ {A = ℕ} 0 1 = cc in absurd (omega arith)
-fixed_known (Known k) fixed m e =
+fixed_known None fixed m e = let z : ◌≡◌ {A = ℕ} 0 1 = cc in absurd (omega arith)
+fixed_known (Some k) fixed m e =
     let a = refuses_false (eqb (length fixed) (fixed_width k)) _ _ m e in
     let b = refuses_false (eqb (first_faulty k fixed) (length (layout k))) _ _ m a.1 in
     (k, refl, eqb-true _ _ a.0, eqb-true _ _ b.0)
 
 -- which is no longer than a delivery's
-pub fixed_most : (fixed : List ℕ) (m : ℕ) → fixed_judged (kind_of fixed) fixed ≡ Fits m → length fixed ≤ 108
+pub fixed_most : (fixed : List ℕ) (m : ℕ) → fixed_judged (kind_of fixed) fixed ≡ Ok m → length fixed ≤ 108
 unfolding fixed_width
 fixed_most fixed m e =
     let k = fixed_known (kind_of fixed) fixed m e in
     omega (arith, total_most k.0)
 
 -- a length that fits is within the most and within the output
-length_fits : (w : ℕ) (out : List ℕ) (n : ℕ) → length_judged w out ≡ Fits n → (w ≡ n) × (w ≤ most_bytes) × (w ≤ length out)
+length_fits : (w : ℕ) (out : List ℕ) (n : ℕ) → length_judged w out ≡ Ok n → (w ≡ n) × (w ≤ most_bytes) × (w ≤ length out)
 unfolding length_judged
 length_fits w out n e =
     let a = refuses_true (ltb most_bytes w) _ _ n e in
     let b = refuses_true (ltb (length out) w) _ _ n a.1 in
-    let q : Fits w ≡ Fits n = b.1 in
+    let q : Ok w ≡ Ok n = b.1 in
     ((cc), ltb-false _ _ a.0, ltb-false _ _ b.0)
 
 -- all that is known of a record of a kind that is written, of n bytes
 pub record Fitting (k : Kind) (fixed table : List ℕ) (count : ℕ) (contents out : List ℕ) (n : ℕ) : Type 0 where
-  pub named : kind_of fixed ≡ Known k
+  pub named : kind_of fixed ≡ Some k
   pub wide : length fixed ≡ fixed_width k
   pub sound : first_faulty k fixed ≡ length (layout k)
   pub few : count ≤ most_fields
   pub listed : count * entry_width ≤ length table
-  pub kept : (m : ℕ) × (fields_judged k contents no_member 0 (entries count table) ≡ Fits m)
+  pub kept : (m : ℕ) × (fields_judged k contents no_member 0 (entries count table) ≡ Ok m)
   pub long : length (record_text fixed (optional_of contents (entries count table))) ≡ n
   pub short : n ≤ most_bytes
   pub room : n ≤ length out
 
-module _ (fixed table : List ℕ) (count : ℕ) (contents out : List ℕ) (n : ℕ) (e : write_judged fixed table count contents out ≡ Fits n) where
+module _ (fixed table : List ℕ) (count : ℕ) (contents out : List ℕ) (n : ℕ) (e : write_judged fixed table count contents out ≡ Ok n) where
   -- a record that fits is all that
   pub fitting : (k : Kind) × Fitting k fixed table count contents out n
   unfolding write_judged rest_judged
   fitting =
       let one = then_first (fixed_judged (kind_of fixed) fixed) _ n e in
       let k = fixed_known (kind_of fixed) fixed one.0 one.1 in
-      let rest : rest_judged (Known k.0) fixed table count contents out ≡ Fits n =
-      ap (λ (j : Kinded). rest_judged j fixed table count contents out) (sym k.1) ∙ then_second (fixed_judged (kind_of fixed) fixed) _ n e in
+      let rest : rest_judged (Some k.0) fixed table count contents out ≡ Ok n =
+      ap (λ (j : Option Kind). rest_judged j fixed table count contents out) (sym k.1) ∙ then_second (fixed_judged (kind_of fixed) fixed) _ n e in
       let a = refuses_true (ltb most_fields count) _ _ n rest in
       let b = refuses_true (ltb (length table) (count * entry_width)) _ _ n a.1 in
       let two = then_first (fields_judged k.0 contents no_member 0 (entries count table)) _ n b.1 in

@@ -13,7 +13,7 @@ use Rattle.record.specs.Read.{entry_width}
 use Rattle.record.specs.declared.layout.Kind.{Kind}
 use Rattle.writing.specs.Write.{entry_of, entries, next_id, entry_kept, fields_judged}
 use Rattle.writing.specs.declared.answer.Refusal.TheVariants.{Content, Group}
-use Rattle.writing.specs.declared.answer.Verdict.TheVariants.{Refused, Fits}
+use Rattle.std.specs.Prelude.{Err, Ok}
 use Rattle.writing.specs.declared.entries.Entry.{Entry}
 
 -- the entry that stands at a place of a table
@@ -58,13 +58,13 @@ module _ (count i : ℕ) (table : List ℕ) (h : i < count) (e : Entry) (q : e �
   -- judged as a field: its content cannot stand, its group is broken, or the fields after it are judged
   module _ (k : Kind) (contents : List ℕ) (before : ℕ) where
     pub content_refused : entry_kept k contents e ≡ false
-        → fields_judged k contents before i (entries (count - i) (drop (i * entry_width) table)) ≡ Refused (Content i)
+        → fields_judged k contents before i (entries (count - i) (drop (i * entry_width) table)) ≡ Err (Content i)
     unfolding fields_judged
     content_refused a = rw (entry_here, a)
 
     module _ (a : entry_kept k contents e ≡ true) (after : ℕ) (n : after ≡ next_id (entries (count - (i + 1)) (drop ((i + 1) * entry_width) table))) where
       pub group_refused : group_kept before e.id after ≡ false
-          → fields_judged k contents before i (entries (count - i) (drop (i * entry_width) table)) ≡ Refused (Group i)
+          → fields_judged k contents before i (entries (count - i) (drop (i * entry_width) table)) ≡ Err (Group i)
       unfolding fields_judged
       group_refused g = rw (entry_here, a, ← n, g)
 
@@ -76,6 +76,6 @@ module _ (count i : ℕ) (table : List ℕ) (h : i < count) (e : Entry) (q : e �
 
 -- with no field left nothing is refused
 pub fields_end : (k : Kind) (contents : List ℕ) (before count i : ℕ) (table : List ℕ) → count ≤ i
-    → fields_judged k contents before i (entries (count - i) table) ≡ Fits 0
+    → fields_judged k contents before i (entries (count - i) table) ≡ Ok 0
 unfolding fields_judged
 fields_end k contents before count i table h = rw (entries_end count i table h)

@@ -1,3 +1,4 @@
+pub mod Verdicts
 pub mod Digits
 pub mod Write
 pub mod Widths

@@ -1,5 +1,5 @@
 -- Writing a record: its refusals in their order, and the bytes that it writes (RULES 5).
-use Rattle.std.specs.Prelude.{ℕ, zero, suc, ◌+◌, ◌-◌, ◌*◌, min, Bool, not, ◌&&◌, List, [], ◌∷◌, ◌++◌, eqb, leb, ltb, length, drop, get_or}
+use Rattle.std.specs.Prelude.{ℕ, zero, suc, ◌+◌, ◌-◌, ◌*◌, min, Bool, not, ◌&&◌, List, [], ◌∷◌, ◌++◌, eqb, leb, ltb, length, drop, get_or, Err, None, Ok, Option, Some}
 use Rattle.std.proofs.Math.Seq.{slice}
 use Rattle.cells.specs.Bytes.{pick, bytes, all, run}
 use Rattle.signs.specs.Class.{star, allowed, belongs}
@@ -10,13 +10,10 @@ use Rattle.record.specs.Fields.{last_id, Optional}
 use Rattle.record.specs.Read.{entry_width}
 use Rattle.record.specs.declared.layout.Field.{Field}
 use Rattle.record.specs.declared.layout.Kind.{Kind}
-use Rattle.record.specs.declared.layout.Kinded.{Kinded}
-use Rattle.record.specs.declared.layout.Kinded.TheVariants.{Known, Unknown}
 use Rattle.writing.specs.Digits.{digits_of}
 use Rattle.writing.specs.declared.answer.Refusal.{Refusal}
 use Rattle.writing.specs.declared.answer.Refusal.TheVariants.{FixedField, TooManyFields, SmallTable, Content, Group, TooLong, SmallOutput}
-use Rattle.writing.specs.declared.answer.Verdict.{Verdict}
-use Rattle.writing.specs.declared.answer.Verdict.TheVariants.{Refused, Fits}
+use Rattle.writing.specs.Verdicts.{Verdict}
 use Rattle.writing.specs.declared.answer.Written.{Written}
 use Rattle.writing.specs.declared.entries.Entry.{Entry}
 
@@ -42,14 +39,14 @@ refusal_place SmallOutput = 0
 
 -- a refusal gives its number and place and zeros; 0 is done, with the number of bytes written
 unfoldable pub written_of : Verdict → Written
-written_of (Refused r) = record { answer = refusal_number r; place = refusal_place r; length = 0 }
-written_of (Fits n) = record { answer = 0; place = 0; length = n }
+written_of (Err r) = record { answer = refusal_number r; place = refusal_place r; length = 0 }
+written_of (Ok n) = record { answer = 0; place = 0; length = n }
 
 -- the first refusal of two stages of writing
 infixr 20 ◌next◌
 unfoldable pub ◌next◌ : Verdict → Verdict → Verdict
-Refused r next b = Refused r
-Fits n next b = b
+Err r next b = Err r
+Ok n next b = b
 
 -- the index of the field that the byte at a place stands in, or the number of fields where it stands past them
 unfoldable pub field_holding : List Field → ℕ → ℕ
@@ -61,12 +58,12 @@ unfoldable pub first_faulty : Kind → List ℕ → ℕ
 first_faulty k fixed = min (first_broken (layout k) fixed) (field_holding (layout k) (run (belongs Allowed) fixed))
 
 -- 5: a first field that names no kind, or a length that is not the kind's, breaks field 0
-unfoldable pub fixed_judged : Kinded → List ℕ → Verdict
-fixed_judged Unknown fixed = Refused (FixedField 0)
-fixed_judged (Known k) fixed =
+unfoldable pub fixed_judged : Option Kind → List ℕ → Verdict
+fixed_judged None fixed = Err (FixedField 0)
+fixed_judged (Some k) fixed =
     pick (eqb (length fixed) (fixed_width k))
-    (pick (eqb (first_faulty k fixed) (length (layout k))) (Fits 0) (Refused (FixedField (first_faulty k fixed))))
-    (Refused (FixedField 0))
+    (pick (eqb (first_faulty k fixed) (length (layout k))) (Ok 0) (Err (FixedField (first_faulty k fixed))))
+    (Err (FixedField 0))
 
 -- the entry that a table begins with: the ID, and where in the lent contents its content stands
 unfoldable pub entry_of : List ℕ → Entry
@@ -112,11 +109,11 @@ entry_kept k contents e = writable contents e && content_kept k e.id (content_in
 
 -- 9 and 10 per field, the first of the entries having index i; before is the ID of the field before it
 unfoldable pub fields_judged : Kind → List ℕ → ℕ → ℕ → List Entry → Verdict
-fields_judged k contents before i [] = Fits 0
+fields_judged k contents before i [] = Ok 0
 fields_judged k contents before i (e ∷ es) =
     pick (entry_kept k contents e)
-    (pick (group_kept before e.id (next_id es)) (fields_judged k contents e.id (i + 1) es) (Refused (Group i)))
-    (Refused (Content i))
+    (pick (group_kept before e.id (next_id es)) (fields_judged k contents e.id (i + 1) es) (Err (Group i)))
+    (Err (Content i))
 
 -- a field as it is written: a star, four digits of ID, the content
 unfoldable pub field_text : Optional → List ℕ
@@ -133,14 +130,14 @@ record_text fixed fs = fixed ++ optional_text fs
 
 -- 1, then 23
 unfoldable pub length_judged : ℕ → List ℕ → Verdict
-length_judged n out = pick (ltb most_bytes n) (Refused TooLong) (pick (ltb (length out) n) (Refused SmallOutput) (Fits n))
+length_judged n out = pick (ltb most_bytes n) (Err TooLong) (pick (ltb (length out) n) (Err SmallOutput) (Ok n))
 
 -- 8, 23, then 9 and 10, then 1 and 23, of a record whose fixed part keeps its rules
-unfoldable pub rest_judged : Kinded → List ℕ → List ℕ → ℕ → List ℕ → List ℕ → Verdict
-rest_judged Unknown fixed table count contents out = Refused (FixedField 0)
-rest_judged (Known k) fixed table count contents out =
-    pick (ltb most_fields count) (Refused TooManyFields)
-    (pick (ltb (length table) (count * entry_width)) (Refused SmallTable)
+unfoldable pub rest_judged : Option Kind → List ℕ → List ℕ → ℕ → List ℕ → List ℕ → Verdict
+rest_judged None fixed table count contents out = Err (FixedField 0)
+rest_judged (Some k) fixed table count contents out =
+    pick (ltb most_fields count) (Err TooManyFields)
+    (pick (ltb (length table) (count * entry_width)) (Err SmallTable)
     (fields_judged k contents no_member 0 (entries count table)
     next length_judged (length (record_text fixed (optional_of contents (entries count table)))) out))
 
@@ -156,8 +153,8 @@ abbrev pub outcome : Written → List ℕ → Outcome
 outcome w o = record { said = w; out = o }
 
 unfoldable pub output_after : Verdict → List ℕ → List ℕ → List ℕ
-output_after (Refused r) text out = out
-output_after (Fits n) text out = text ++ drop n out
+output_after (Err r) text out = out
+output_after (Ok n) text out = text ++ drop n out
 
 unfoldable pub write : List ℕ → List ℕ → ℕ → List ℕ → List ℕ → Outcome
 write fixed table count contents out =

@@ -18,12 +18,8 @@ pub enum Refusal {
     SmallOutput,
 }
 
-// A refusal, or the length of the record.
-#[derive(Clone, Copy)]
-pub enum Verdict {
-    Refused(Refusal),
-    Fits(usize),
-}
+// The length of the record, or a refusal.
+pub type Verdict = Result<usize, Refusal>;
 
 // The answer number and place of document 01, and the number of bytes written.
 #[repr(C)]
@@ -67,12 +63,12 @@ pub fn written_of(v: Verdict) -> Written
     ensures { result ≡ written_of v }
 {
     match v {
-        Verdict::Refused(r) => Written {
+        Err(r) => Written {
             answer: refusal_number(r),
             place: refusal_place(r),
             length: 0,
         },
-        Verdict::Fits(n) => Written {
+        Ok(n) => Written {
             answer: 0,
             place: 0,
             length: n,

@@ -111,16 +111,16 @@ pub fn judge_fields(k: Kind, table: &[usize], count: usize, contents: &[u8]) -> 
     while i < count {
         let e = entry_at(table, i);
         if !keeps_entry(k, contents, e) {
-            return Verdict::Refused(Refusal::Content(i));
+            return Err(Refusal::Content(i));
         }
         let after = next_id(table, i + 1, count);
         if !group_kept(before, e.id, after) {
-            return Verdict::Refused(Refusal::Group(i));
+            return Err(Refusal::Group(i));
         }
         before = e.id;
         i += 1;
     }
-    Verdict::Fits(0)
+    Ok(0)
 }
 
 // How long the record becomes, or one more than the most where it is too long.

@@ -4,7 +4,7 @@ ghost use Rattle.record.specs.Layout.{layout, kind_of};
 ghost use Rattle.writing.specs.Write.{field_holding, first_faulty, fixed_judged};
 
 use crate::answer::{Refusal, Verdict};
-use record::layout::{Kind, Kinded, field_count, first_broken, fixed_width, kind_of, size_of};
+use record::layout::{Kind, field_count, first_broken, fixed_width, kind_of, size_of};
 use signs::allowed_run;
 
 // The index of the field that the byte at a place stands in, or the number of fields past them.
@@ -48,16 +48,16 @@ pub fn judge_fixed(fixed: &[u8]) -> Verdict
     ensures { result ≡ fixed_judged (kind_of fixed.now) fixed.now }
 {
     match kind_of(fixed) {
-        Kinded::Unknown => Verdict::Refused(Refusal::FixedField(0)),
-        Kinded::Known(k) => {
+        None => Err(Refusal::FixedField(0)),
+        Some(k) => {
             if fixed.len() != fixed_width(k) {
-                return Verdict::Refused(Refusal::FixedField(0));
+                return Err(Refusal::FixedField(0));
             }
             let faulty = first_faulty(k, fixed);
             if faulty != field_count(k) {
-                return Verdict::Refused(Refusal::FixedField(faulty));
+                return Err(Refusal::FixedField(faulty));
             }
-            Verdict::Fits(0)
+            Ok(0)
         }
     }
 }

@@ -10,12 +10,12 @@ find_line-requires c =
 
 pub read_line-requires : goal.read_line-requires
 read_line-requires c =
-    (line_stands _ c.requires.0 _ _ (line_search _ _ _ _ c.find_line.ensures refl c.in-At.is)).0
+    (line_stands _ c.requires.0 _ _ (line_search _ _ _ _ c.find_line.ensures refl c.in-Some.is)).0
 
-pub returns-in-Nothing : goal.returns-in-Nothing
-returns-in-Nothing c =
-    c.refuse.ensures ∙ sym (figures_none _ _ (line_search _ _ _ _ c.find_line.ensures refl c.in-Nothing.is))
+pub returns-in-None : goal.returns-in-None
+returns-in-None c =
+    c.refuse.ensures ∙ sym (figures_none _ _ (line_search _ _ _ _ c.find_line.ensures refl c.in-None.is))
 
-pub returns-in-At : goal.returns-in-At
-returns-in-At c =
-    rw (c.done.ensures, c.read_line.ensures) (sym (figures_found _ _ _ (line_search _ _ _ _ c.find_line.ensures refl c.in-At.is)))
+pub returns-in-Some : goal.returns-in-Some
+returns-in-Some c =
+    rw (c.done.ensures, c.read_line.ensures) (sym (figures_found _ _ _ (line_search _ _ _ _ c.find_line.ensures refl c.in-Some.is)))

@@ -7,7 +7,7 @@ use Rattle.record.specs.Layout.{layout, fixed_width, start_of}
 use Rattle.record.specs.Fields.{head_width}
 use Rattle.record.specs.Read.{optional_judged}
 use Rattle.record.specs.declared.answer.Refusal.TheVariants.{Byte, FixedField}
-use Rattle.record.specs.declared.answer.Verdict.TheVariants.{Refused}
+use Rattle.std.specs.Prelude.{Err}
 use Rattle.record.proofs.Layouts.{total_most}
 use Rattle.reader.proofs.Stages.{kind_short, kind_byte_law, kind_fixed, kind_rest}
 use Rattle.reader.proofs.judge_kind.Goals as goal
@@ -24,14 +24,14 @@ returns-then-s-width c =
 pub returns-then-allowed-s : goal.returns-then-allowed-s
 returns-then-allowed-s c =
     let wide : fixed_width c.args.k + head_width ≤ length c.args.s.now = omega (arith, c.if-s-width.false, c.fixed_width-width.ensures) in
-    ap (λ (n : ℕ). Refused (Byte n)) c.allowed_run-allowed.ensures
+    ap (λ (n : ℕ). Err (Byte n)) c.allowed_run-allowed.ensures
     ∙ sym (kind_byte_law _ _ (wide) (λ e. c.if-allowed-s.true (c.allowed_run-allowed.ensures ∙ e)))
 
 pub returns-then-broken-field_count : goal.returns-then-broken-field_count
 returns-then-broken-field_count c =
     let wide : fixed_width c.args.k + head_width ≤ length c.args.s.now = omega (arith, c.if-s-width.false, c.fixed_width-width.ensures) in
     let place = c.start_of.ensures ∙ ap (start_of (layout c.args.k)) c.first_broken-broken.ensures in
-    ap (λ (n : ℕ). Refused (FixedField n)) place
+    ap (λ (n : ℕ). Err (FixedField n)) place
     ∙ sym (kind_fixed _ _ (wide) (sym c.allowed_run-allowed.ensures ∙ c.if-allowed-s.false)
     (λ e. c.if-broken-field_count.true (c.first_broken-broken.ensures ∙ e ∙ sym c.field_count.ensures)))
 

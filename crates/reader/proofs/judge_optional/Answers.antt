@@ -8,21 +8,21 @@ use Rattle.reader.proofs.judge_optional.Goals as goal
 
 pub returns-then-n-eq0 : goal.returns-then-n-eq0
 returns-then-n-eq0 c =
-    sym (none_fits _ _ _ _ (sym c.walk.ensures ∙ c.in-Fits.is) c.if-n-eq0.true)
+    sym (none_fits _ _ _ _ (sym c.walk.ensures ∙ c.in-Ok.is) c.if-n-eq0.true)
 
 pub judge-requires : goal.judge-requires
 judge-requires c =
-    let few = walk_count _ 0 _ _ _ (sym c.walk.ensures ∙ c.in-Fits.is) in
+    let few = walk_count _ 0 _ _ _ (sym c.walk.ensures ∙ c.in-Ok.is) in
     (search rules, omega (arith, few))
 
-pub returns-in-Refused : goal.returns-in-Refused
-returns-in-Refused c =
-    sym (walk_refused _ _ _ _ (sym c.walk.ensures ∙ c.in-Refused.is))
+pub returns-in-Err : goal.returns-in-Err
+returns-in-Err c =
+    sym (walk_refused _ _ _ _ (sym c.walk.ensures ∙ c.in-Err.is))
 
-pub returns-in-Refused-judge : goal.returns-in-Refused-judge
-returns-in-Refused-judge c =
-    sym (judge_refused _ _ _ _ (sym c.walk.ensures ∙ c.in-Fits.is) _ (sym c.judge.ensures ∙ c.in-Refused-judge.is))
+pub returns-in-Err-judge : goal.returns-in-Err-judge
+returns-in-Err-judge c =
+    sym (judge_refused _ _ _ _ (sym c.walk.ensures ∙ c.in-Ok.is) _ (sym c.judge.ensures ∙ c.in-Err-judge.is))
 
-pub returns-in-Fits-judge : goal.returns-in-Fits-judge
-returns-in-Fits-judge c =
-    sym (judge_fits _ _ _ _ (sym c.walk.ensures ∙ c.in-Fits.is) _ (sym c.judge.ensures ∙ c.in-Fits-judge.is))
+pub returns-in-Ok-judge : goal.returns-in-Ok-judge
+returns-in-Ok-judge c =
+    sym (judge_fits _ _ _ _ (sym c.walk.ensures ∙ c.in-Ok.is) _ (sym c.judge.ensures ∙ c.in-Ok-judge.is))

@@ -3,11 +3,11 @@ use mathlib.Core.Path.{◌∙◌, sym, ap}
 use Rattle.record.specs.Read.{optional_start}
 use Rattle.reader.proofs.optional_start.Goals as goal
 
-pub returns-in-Known : goal.returns-in-Known
+pub returns-in-Some : goal.returns-in-Some
 unfolding optional_start
-returns-in-Known c =
-    c.fixed_width.ensures ∙ sym (ap optional_start (sym c.kind_of.ensures ∙ c.in-Known.is))
+returns-in-Some c =
+    c.fixed_width.ensures ∙ sym (ap optional_start (sym c.kind_of.ensures ∙ c.in-Some.is))
 
-pub returns-in-Unknown : goal.returns-in-Unknown
+pub returns-in-None : goal.returns-in-None
 unfolding optional_start
-returns-in-Unknown c = sym (ap optional_start (sym c.kind_of.ensures ∙ c.in-Unknown.is))
+returns-in-None c = sym (ap optional_start (sym c.kind_of.ensures ∙ c.in-None.is))

@@ -7,14 +7,14 @@ use Rattle.reader.proofs.read_delivery.Goals as goal
 
 pub delivery_of-requires : goal.delivery_of-requires
 delivery_of-requires c =
-    delivery_wide _ _ (sym c.judge_as-verdict.ensures ∙ c.in-Fits.is)
+    delivery_wide _ _ (sym c.judge_as-verdict.ensures ∙ c.in-Ok.is)
 
-pub returns-in-Refused : goal.returns-in-Refused
+pub returns-in-Err : goal.returns-in-Err
 unfolding read_delivery
-returns-in-Refused c =
-    no_delivery_read _ _ _ c.judge_as-verdict.ensures _ c.checked_of-checked.ensures _ c.in-Refused.is _ c.no_delivery.ensures
+returns-in-Err c =
+    no_delivery_read _ _ _ c.judge_as-verdict.ensures _ c.checked_of-checked.ensures _ c.in-Err.is _ c.no_delivery.ensures
 
-pub returns-in-Fits : goal.returns-in-Fits
+pub returns-in-Ok : goal.returns-in-Ok
 unfolding read_delivery
-returns-in-Fits c =
-    delivery_read _ _ _ c.judge_as-verdict.ensures _ c.checked_of-checked.ensures _ c.in-Fits.is _ c.delivery_of.ensures
+returns-in-Ok c =
+    delivery_read _ _ _ c.judge_as-verdict.ensures _ c.checked_of-checked.ensures _ c.in-Ok.is _ c.delivery_of.ensures

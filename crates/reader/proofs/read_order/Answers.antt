@@ -7,14 +7,14 @@ use Rattle.reader.proofs.read_order.Goals as goal
 
 pub order_of-requires : goal.order_of-requires
 order_of-requires c =
-    order_wide _ _ (sym c.judge_as-verdict.ensures ∙ c.in-Fits.is)
+    order_wide _ _ (sym c.judge_as-verdict.ensures ∙ c.in-Ok.is)
 
-pub returns-in-Refused : goal.returns-in-Refused
+pub returns-in-Err : goal.returns-in-Err
 unfolding read_order
-returns-in-Refused c =
-    no_order_read _ _ _ c.judge_as-verdict.ensures _ c.checked_of-checked.ensures _ c.in-Refused.is _ c.no_order.ensures
+returns-in-Err c =
+    no_order_read _ _ _ c.judge_as-verdict.ensures _ c.checked_of-checked.ensures _ c.in-Err.is _ c.no_order.ensures
 
-pub returns-in-Fits : goal.returns-in-Fits
+pub returns-in-Ok : goal.returns-in-Ok
 unfolding read_order
-returns-in-Fits c =
-    order_read _ _ _ c.judge_as-verdict.ensures _ c.checked_of-checked.ensures _ c.in-Fits.is _ c.order_of.ensures
+returns-in-Ok c =
+    order_read _ _ _ c.judge_as-verdict.ensures _ c.checked_of-checked.ensures _ c.in-Ok.is _ c.order_of.ensures

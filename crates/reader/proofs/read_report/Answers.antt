@@ -7,14 +7,14 @@ use Rattle.reader.proofs.read_report.Goals as goal
 
 pub report_of-requires : goal.report_of-requires
 report_of-requires c =
-    report_wide _ _ (sym c.judge_as-verdict.ensures ∙ c.in-Fits.is)
+    report_wide _ _ (sym c.judge_as-verdict.ensures ∙ c.in-Ok.is)
 
-pub returns-in-Refused : goal.returns-in-Refused
+pub returns-in-Err : goal.returns-in-Err
 unfolding read_report
-returns-in-Refused c =
-    no_report_read _ _ _ c.judge_as-verdict.ensures _ c.checked_of-checked.ensures _ c.in-Refused.is _ c.no_report.ensures
+returns-in-Err c =
+    no_report_read _ _ _ c.judge_as-verdict.ensures _ c.checked_of-checked.ensures _ c.in-Err.is _ c.no_report.ensures
 
-pub returns-in-Fits : goal.returns-in-Fits
+pub returns-in-Ok : goal.returns-in-Ok
 unfolding read_report
-returns-in-Fits c =
-    report_read _ _ _ c.judge_as-verdict.ensures _ c.checked_of-checked.ensures _ c.in-Fits.is _ c.report_of.ensures
+returns-in-Ok c =
+    report_read _ _ _ c.judge_as-verdict.ensures _ c.checked_of-checked.ensures _ c.in-Ok.is _ c.report_of.ensures

@@ -2,8 +2,8 @@
 use mathlib.Core.Path.{sym, ◌∙◌}
 use Rattle.values.proofs.day_of.Goals as goal
 
-pub returns-in-Real : goal.returns-in-Real
-returns-in-Real c = rw (sym c.of_digits.ensures ∙ c.in-Real.is)
+pub returns-in-Some : goal.returns-in-Some
+returns-in-Some c = rw (sym c.of_digits.ensures ∙ c.in-Some.is)
 
-pub returns-in-Unreal : goal.returns-in-Unreal
-returns-in-Unreal c = rw (c.no_day.ensures, sym c.of_digits.ensures ∙ c.in-Unreal.is)
+pub returns-in-None : goal.returns-in-None
+returns-in-None c = rw (c.no_day.ensures, sym c.of_digits.ensures ∙ c.in-None.is)

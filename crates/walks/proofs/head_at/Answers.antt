@@ -7,7 +7,7 @@ use Rattle.signs.specs.Class.{all_of}
 use Rattle.rules.specs.Number.{number}
 use Rattle.signs.specs.declared.Class.TheVariants.{Digit}
 use Rattle.rules.proofs.Parts.{part_most}
-use Rattle.record.specs.declared.fields.Head.TheVariants.{Id}
+use Rattle.std.specs.Prelude.{Some}
 use Rattle.walks.proofs.Heads.{head_short, head_other, head_letters, head_id}
 use Rattle.walks.proofs.head_at.Goals as goal
 
@@ -39,5 +39,5 @@ number_of-requires c =
 pub returns : goal.returns
 returns c =
     let a = c.args in
-    ap Id (c.number_of.ensures ∙ ap number c.part-digits.ensures)
+    ap Some (c.number_of.ensures ∙ ap number c.part-digits.ensures)
     ∙ sym (head_id a.s.now a.at c.if-s-at-lt-HEAD_WIDTH.false c.if-s-at-ne-STAR.false (ap (all_of Digit) (sym c.part-digits.ensures) ∙ is_so c.all_of.ensures c.if-not-all_of.false))

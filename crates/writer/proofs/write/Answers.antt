@@ -2,7 +2,7 @@
 use mathlib.Core.Path.{◌≡◌, ◌∙◌, sym}
 use native.Mathlib.Omega.{arith}
 use Rattle.writing.specs.Write.{write_judged}
-use Rattle.writing.specs.declared.answer.Verdict.{Verdict}
+use Rattle.writing.specs.Verdicts.{Verdict}
 use Rattle.writing.proofs.Stages.{write_refused, write_fits}
 use Rattle.writing.proofs.Fitting.{fitting, fits_inside, fits_width, fits_stored}
 use Rattle.writer.proofs.write.Goals as goal
@@ -12,22 +12,22 @@ put_record-requires c =
     let said : (v : Verdict) → c.judge_write.result ≡ v
     → let a = c.args in
     write_judged a.fixed.now a.table.now a.count a.contents.now a.out.now ≡ v = λ v e. sym c.judge_write.ensures ∙ e in
-    let j = said _ c.in-Fits.is in
+    let j = said _ c.in-Ok.is in
     let f = (fitting _ _ _ _ _ _ j).1 in
     let w = fits_width _ _ _ _ _ _ j in
     (f.few, f.listed, fits_inside _ _ _ _ _ _ j, omega arith)
 
-pub returns-in-Refused : goal.returns-in-Refused
-returns-in-Refused c =
+pub returns-in-Err : goal.returns-in-Err
+returns-in-Err c =
     let said : (v : Verdict) → c.judge_write.result ≡ v
     → let a = c.args in
     write_judged a.fixed.now a.table.now a.count a.contents.now a.out.now ≡ v = λ v e. sym c.judge_write.ensures ∙ e in
-    rw c.written_of.ensures (sym (write_refused _ _ _ _ _ _ (said _ c.in-Refused.is)))
+    rw c.written_of.ensures (sym (write_refused _ _ _ _ _ _ (said _ c.in-Err.is)))
 
-pub returns-in-Fits : goal.returns-in-Fits
-returns-in-Fits c =
+pub returns-in-Ok : goal.returns-in-Ok
+returns-in-Ok c =
     let said : (v : Verdict) → c.judge_write.result ≡ v
     → let a = c.args in
     write_judged a.fixed.now a.table.now a.count a.contents.now a.out.now ≡ v = λ v e. sym c.judge_write.ensures ∙ e in
-    let j = said _ c.in-Fits.is in
-    rw (c.written_of-in-Fits.ensures, c.put_record.ensures, fits_stored _ _ _ _ _ _ j) (sym (write_fits _ _ _ _ _ _ j))
+    let j = said _ c.in-Ok.is in
+    rw (c.written_of-in-Ok.ensures, c.put_record.ensures, fits_stored _ _ _ _ _ _ j) (sym (write_fits _ _ _ _ _ _ j))

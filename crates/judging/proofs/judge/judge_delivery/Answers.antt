@@ -14,7 +14,7 @@ find_slip-requires c =
 
 pub judge_slip-requires : goal.judge_slip-requires
 judge_slip-requires c =
-    let at = slip_stands _ c.requires.0 _ _ (slip_search _ _ _ _ c.find_slip.ensures c.slip_key.ensures c.in-At.is) in
+    let at = slip_stands _ c.requires.0 _ _ (slip_search _ _ _ _ c.find_slip.ensures c.slip_key.ensures c.in-Some.is) in
     (at.0, at.1, wide_key Goods _ c.goods_key-key.ensures (goods_wide _ c.requires.1))
 
 pub find_line-requires : goal.find_line-requires
@@ -23,25 +23,25 @@ find_line-requires c =
 
 pub judge_arrival-requires : goal.judge_arrival-requires
 judge_arrival-requires c =
-    let at = line_stands _ c.requires.0 _ _ (line_search _ _ _ _ c.find_line.ensures (joined_key Goods _ c.goods_key-key.ensures) c.in-At-find_line.is) in
+    let at = line_stands _ c.requires.0 _ _ (line_search _ _ _ _ c.find_line.ensures (joined_key Goods _ c.goods_key-key.ensures) c.in-Some-find_line.is) in
     (c.requires.2, at.0, at.1)
 
-pub returns-in-At : goal.returns-in-At
-returns-in-At c =
+pub returns-in-Some : goal.returns-in-Some
+returns-in-Some c =
     rw (c.judge_slip.ensures, joined_key Goods _ c.goods_key-key.ensures)
-    (sym (slip_again _ _ _ _ _ (slip_search _ _ _ _ c.find_slip.ensures c.slip_key.ensures c.in-At.is)))
+    (sym (slip_again _ _ _ _ _ (slip_search _ _ _ _ c.find_slip.ensures c.slip_key.ensures c.in-Some.is)))
 
-pub returns-in-Nothing-find_line : goal.returns-in-Nothing-find_line
-returns-in-Nothing-find_line c =
+pub returns-in-None-find_line : goal.returns-in-None-find_line
+returns-in-None-find_line c =
     sym
     (slip_unknown _ _ _ _
-    (slip_search _ _ _ _ c.find_slip.ensures c.slip_key.ensures c.in-Nothing.is)
-    (line_search _ _ _ _ c.find_line.ensures (joined_key Goods _ c.goods_key-key.ensures) c.in-Nothing-find_line.is))
+    (slip_search _ _ _ _ c.find_slip.ensures c.slip_key.ensures c.in-None.is)
+    (line_search _ _ _ _ c.find_line.ensures (joined_key Goods _ c.goods_key-key.ensures) c.in-None-find_line.is))
 
-pub returns-in-At-find_line : goal.returns-in-At-find_line
-returns-in-At-find_line c =
+pub returns-in-Some-find_line : goal.returns-in-Some-find_line
+returns-in-Some-find_line c =
     rw c.judge_arrival.ensures
     (sym
     (slip_arrives _ _ _ _
-    (slip_search _ _ _ _ c.find_slip.ensures c.slip_key.ensures c.in-Nothing.is)
-    _ (line_search _ _ _ _ c.find_line.ensures (joined_key Goods _ c.goods_key-key.ensures) c.in-At-find_line.is)))
+    (slip_search _ _ _ _ c.find_slip.ensures c.slip_key.ensures c.in-None.is)
+    _ (line_search _ _ _ _ c.find_line.ensures (joined_key Goods _ c.goods_key-key.ensures) c.in-Some-find_line.is)))

@@ -34,17 +34,17 @@ judge_delivery-requires c =
     let copies = goods_copies _ c.copies_of-copies.ensures c.part-2.ensures in
     (c.requires.0, c.requires.1, rw copies c.requires.2)
 
-pub returns-in-Off : goal.returns-in-Off
-returns-in-Off c =
+pub returns-in-None : goal.returns-in-None
+returns-in-None c =
     sym
     (goods_off _ _ _
     (sym (slip_blank _ c.all_of.ensures c.part.ensures) ∙ c.if-all_of.false)
     (some_copies (goods_copies _ c.copies_of-copies.ensures c.part-2.ensures) c.if-copies-eq0.false)
     (sym (goods_blank _ c.all_of-2.ensures c.part-3.ensures) ∙ c.if-all_of-2.false)
-    (asked _ c.standing_on.ensures (c.part-4.ensures ∙ sym (goods_school_is _)) c.in-Off.is))
+    (asked _ c.standing_on.ensures (c.part-4.ensures ∙ sym (goods_school_is _)) c.in-None.is))
 
-pub returns-in-On : goal.returns-in-On
-returns-in-On c =
+pub returns-in-Some : goal.returns-in-Some
+returns-in-Some c =
     let copies = goods_copies _ c.copies_of-copies.ensures c.part-2.ensures in
     rw (c.judge_delivery.ensures, copies)
     (sym
@@ -52,4 +52,4 @@ returns-in-On c =
     (sym (slip_blank _ c.all_of.ensures c.part.ensures) ∙ c.if-all_of.false)
     (some_copies (goods_copies _ c.copies_of-copies.ensures c.part-2.ensures) c.if-copies-eq0.false)
     (sym (goods_blank _ c.all_of-2.ensures c.part-3.ensures) ∙ c.if-all_of-2.false)
-    _ (asked _ c.standing_on.ensures (c.part-4.ensures ∙ sym (goods_school_is _)) c.in-On.is)))
+    _ (asked _ c.standing_on.ensures (c.part-4.ensures ∙ sym (goods_school_is _)) c.in-Some.is)))

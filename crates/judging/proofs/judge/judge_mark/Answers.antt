@@ -10,10 +10,10 @@ pub find_line-requires : goal.find_line-requires
 find_line-requires c =
     (lines_stand _ _ _ c.requires.0, wide_key Report _ c.report_key-key.ensures (report_wide _ c.requires.1))
 
-pub returns-in-Nothing : goal.returns-in-Nothing
-returns-in-Nothing c =
-    sym (mark_unknown _ _ (line_search _ _ _ _ c.find_line.ensures (joined_key Report _ c.report_key-key.ensures) c.in-Nothing.is))
+pub returns-in-None : goal.returns-in-None
+returns-in-None c =
+    sym (mark_unknown _ _ (line_search _ _ _ _ c.find_line.ensures (joined_key Report _ c.report_key-key.ensures) c.in-None.is))
 
-pub returns-in-At : goal.returns-in-At
-returns-in-At c =
-    sym (mark_fits _ _ _ (line_search _ _ _ _ c.find_line.ensures (joined_key Report _ c.report_key-key.ensures) c.in-At.is))
+pub returns-in-Some : goal.returns-in-Some
+returns-in-Some c =
+    sym (mark_fits _ _ _ (line_search _ _ _ _ c.find_line.ensures (joined_key Report _ c.report_key-key.ensures) c.in-Some.is))

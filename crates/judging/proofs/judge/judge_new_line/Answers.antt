@@ -10,11 +10,11 @@ pub find_line-requires : goal.find_line-requires
 find_line-requires c =
     (lines_stand _ _ _ c.requires.0, wide_key Order _ c.order_key-key.ensures (order_wide _ c.requires.1))
 
-pub returns-in-At : goal.returns-in-At
-returns-in-At c =
-    sym (new_exists _ _ _ _ _ _ (line_search _ _ _ _ c.find_line.ensures (joined_key Order _ c.order_key-key.ensures) c.in-At.is))
+pub returns-in-Some : goal.returns-in-Some
+returns-in-Some c =
+    sym (new_exists _ _ _ _ _ _ (line_search _ _ _ _ c.find_line.ensures (joined_key Order _ c.order_key-key.ensures) c.in-Some.is))
 
-pub returns-in-Nothing : goal.returns-in-Nothing
-returns-in-Nothing c =
+pub returns-in-None : goal.returns-in-None
+returns-in-None c =
     rw (c.judge_room.ensures, c.part.ensures, ← order_school_is c.args.s.now)
-    (sym (new_line _ _ _ _ _ (line_search _ _ _ _ c.find_line.ensures (joined_key Order _ c.order_key-key.ensures) c.in-Nothing.is)))
+    (sym (new_line _ _ _ _ _ (line_search _ _ _ _ c.find_line.ensures (joined_key Order _ c.order_key-key.ensures) c.in-None.is)))

@@ -25,20 +25,20 @@ judge_new_line-requires c =
     let copies = order_copies _ c.copies_of-copies.ensures c.part.ensures in
     (c.requires.0, c.requires.1, rw copies c.requires.2)
 
-pub returns-in-Off : goal.returns-in-Off
-returns-in-Off c =
+pub returns-in-None : goal.returns-in-None
+returns-in-None c =
     sym
     (order_off _ _ _
     (some_copies (order_copies _ c.copies_of-copies.ensures c.part.ensures) c.if-copies-eq0.false)
     (sym (order_blank _ c.all_of.ensures c.part-2.ensures) ∙ c.if-all_of.false)
-    (asked _ c.standing_on.ensures (c.part-3.ensures ∙ sym (order_school_is _)) c.in-Off.is))
+    (asked _ c.standing_on.ensures (c.part-3.ensures ∙ sym (order_school_is _)) c.in-None.is))
 
-pub returns-in-On : goal.returns-in-On
-returns-in-On c =
+pub returns-in-Some : goal.returns-in-Some
+returns-in-Some c =
     let copies = order_copies _ c.copies_of-copies.ensures c.part.ensures in
     rw (c.judge_new_line.ensures, copies)
     (sym
     (order_on _ _ _
     (some_copies (order_copies _ c.copies_of-copies.ensures c.part.ensures) c.if-copies-eq0.false)
     (sym (order_blank _ c.all_of.ensures c.part-2.ensures) ∙ c.if-all_of.false)
-    _ (asked _ c.standing_on.ensures (c.part-3.ensures ∙ sym (order_school_is _)) c.in-On.is)))
+    _ (asked _ c.standing_on.ensures (c.part-3.ensures ∙ sym (order_school_is _)) c.in-Some.is)))

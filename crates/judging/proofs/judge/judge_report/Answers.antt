@@ -8,17 +8,17 @@ pub returns-then-all_of : goal.returns-then-all_of
 returns-then-all_of c =
     sym (report_unnamed _ _ _ (sym (report_blank _ c.all_of.ensures c.part.ensures) ∙ c.if-all_of.true))
 
-pub returns-in-Off : goal.returns-in-Off
-returns-in-Off c =
+pub returns-in-None : goal.returns-in-None
+returns-in-None c =
     sym
     (report_off _ _ _
     (sym (report_blank _ c.all_of.ensures c.part.ensures) ∙ c.if-all_of.false)
-    (asked _ c.standing_on.ensures (c.part-2.ensures ∙ sym (report_school_is _)) c.in-Off.is))
+    (asked _ c.standing_on.ensures (c.part-2.ensures ∙ sym (report_school_is _)) c.in-None.is))
 
-pub returns-in-On : goal.returns-in-On
-returns-in-On c =
+pub returns-in-Some : goal.returns-in-Some
+returns-in-Some c =
     rw c.judge_mark.ensures
     (sym
     (report_on_law _ _ _
     (sym (report_blank _ c.all_of.ensures c.part.ensures) ∙ c.if-all_of.false)
-    _ (asked _ c.standing_on.ensures (c.part-2.ensures ∙ sym (report_school_is _)) c.in-On.is)))
+    _ (asked _ c.standing_on.ensures (c.part-2.ensures ∙ sym (report_school_is _)) c.in-Some.is)))

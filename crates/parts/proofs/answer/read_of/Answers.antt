@@ -2,10 +2,10 @@
 use Rattle.parts.specs.Answers.{read_of}
 use Rattle.parts.proofs.answer.read_of.Goals as goal
 
-pub returns-in-Refused : goal.returns-in-Refused
+pub returns-in-Err : goal.returns-in-Err
 unfolding read_of
-returns-in-Refused c = rw (c.in-Refused.is, c.refusal_number.ensures)
+returns-in-Err c = rw (c.in-Err.is, c.refusal_number.ensures)
 
-pub returns-in-Fits : goal.returns-in-Fits
+pub returns-in-Ok : goal.returns-in-Ok
 unfolding read_of
-returns-in-Fits c = rw c.in-Fits.is
+returns-in-Ok c = rw c.in-Ok.is

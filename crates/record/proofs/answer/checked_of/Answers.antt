@@ -2,10 +2,10 @@
 use Rattle.record.specs.Answers.{checked_of}
 use Rattle.record.proofs.answer.checked_of.Goals as goal
 
-pub returns-in-Refused : goal.returns-in-Refused
+pub returns-in-Err : goal.returns-in-Err
 unfolding checked_of
-returns-in-Refused c = rw (c.in-Refused.is, c.refusal_number.ensures, c.refusal_place.ensures)
+returns-in-Err c = rw (c.in-Err.is, c.refusal_number.ensures, c.refusal_place.ensures)
 
-pub returns-in-Fits : goal.returns-in-Fits
+pub returns-in-Ok : goal.returns-in-Ok
 unfolding checked_of
-returns-in-Fits c = rw c.in-Fits.is
+returns-in-Ok c = rw c.in-Ok.is

@@ -2,10 +2,10 @@
 use Rattle.writing.specs.Write.{written_of}
 use Rattle.writing.proofs.answer.written_of.Goals as goal
 
-pub returns-in-Refused : goal.returns-in-Refused
+pub returns-in-Err : goal.returns-in-Err
 unfolding written_of
-returns-in-Refused c = rw (c.in-Refused.is, c.refusal_number.ensures, c.refusal_place.ensures)
+returns-in-Err c = rw (c.in-Err.is, c.refusal_number.ensures, c.refusal_place.ensures)
 
-pub returns-in-Fits : goal.returns-in-Fits
+pub returns-in-Ok : goal.returns-in-Ok
 unfolding written_of
-returns-in-Fits c = rw c.in-Fits.is
+returns-in-Ok c = rw c.in-Ok.is
