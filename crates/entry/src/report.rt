@@ -31,7 +31,8 @@ const LEAST_MARK: u8 = 1;
 
 pub const MOST_MARK: u8 = 2;
 
-const BLANK_DATE: &[u8; Day::WIDTH] = b"        ";
+// The expected date where there is no report, or none with a number.
+pub const BLANK_DATE: [u8; Day::WIDTH] = *b"        ";
 
 // The form of an expected date, as it is told.
 const A_DAY: u64 = 1;
@@ -108,7 +109,7 @@ pub fn report_told(m: Message, e: Expected) -> Reported
 pub fn expected_date(date: [u8; Day::WIDTH]) -> Expected
     ensures { result ≡ expected_of date }
 {
-    if same(&date, BLANK_DATE) {
+    if same(&date, &BLANK_DATE) {
         return Expected::Blanks;
     }
     expected_of(&date)
@@ -123,13 +124,13 @@ pub fn is_report_sound(mark: u8, message: u64, date: [u8; Day::WIDTH]) -> bool
         if mark != NO_MARK {
             return false;
         }
-        return same(&date, BLANK_DATE);
+        return same(&date, &BLANK_DATE);
     }
     if !((LEAST_MARK <= mark) & (mark <= MOST_MARK)) {
         return false;
     }
     if message == MESSAGE_UNKNOWN {
-        return same(&date, BLANK_DATE);
+        return same(&date, &BLANK_DATE);
     }
     (message <= MOST_MESSAGE) & is_expected(&date)
 }
