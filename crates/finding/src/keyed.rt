@@ -5,7 +5,7 @@ ghost use Rattle.cells.specs.Bytes.{same};
 ghost use Rattle.entry.specs.Stored.{line_width, key_is, address_width, qualifier_width};
 ghost use Rattle.entry.specs.Keyed.{keyed};
 
-use cells::same_wide;
+use cells::same;
 use entry::key::{ADDRESS_WIDTH, QUALIFIER_WIDTH, REFERENCE_AT, REFERENCE_WIDTH, SECOND_PARTY_AT};
 use entry::line_key::LineKey;
 use stored::LINE_WIDTH;
@@ -16,7 +16,7 @@ fn field_is(lines: &[u8], at: usize, width: usize, field: &[u8]) -> bool
     requires { (at + width ≤ length lines.now) × (length field.now ≡ width) }
     ensures { result ≡ same (slice at (at + width) lines.now) field.now }
 {
-    same_wide(&lines[at..at + width], &field[0..width])
+    same(&lines[at..at + width], &field[0..width])
 }
 
 // Whether an address stands at a place, and its qualifier after it.

@@ -6,7 +6,7 @@ ghost use Rattle.entry.specs.Keyed.{keyed};
 ghost use Rattle.book.specs.Lent.{most_lines, lent, room_sound, sound};
 
 use crate::keyed::key_is;
-use cells::little::word8;
+use cells::little::get;
 use entry::key::{REFERENCE_TELLS, SCHOOL_TELLS};
 use entry::line_key::LineKey;
 use stored::{
@@ -24,13 +24,13 @@ pub fn find_line(lines: &[u8], count: usize, key: LineKey) -> Option<usize>
     requires { line_width * count ≤ length lines.now }
     ensures { result ≡ first_from (key_is lines.now (keyed key.entry)) count 0 }
 {
-    let school = word8(key.school, SCHOOL_TELLS);
-    let reference = word8(key.reference, REFERENCE_TELLS);
+    let school = get::<8>(key.school, SCHOOL_TELLS);
+    let reference = get::<8>(key.reference, REFERENCE_TELLS);
     for line in 0..count {
-        if word8(lines, LINE_WIDTH * line + KEY_TELLS) != reference {
+        if get::<8>(lines, LINE_WIDTH * line + KEY_TELLS) != reference {
             continue;
         }
-        if word8(lines, LINE_WIDTH * line + SCHOOL_TELLS) != school {
+        if get::<8>(lines, LINE_WIDTH * line + SCHOOL_TELLS) != school {
             continue;
         }
         if key_is(lines, line, key) {
@@ -46,9 +46,9 @@ pub fn find_slip(slips: &[u8], count: usize, key: &[u8]) -> Option<usize>
     requires { (slip_width * count ≤ length slips.now) × (length key.now ≡ slip_key_width) }
     ensures { result ≡ first_from (slip_is slips.now key.now) count 0 }
 {
-    let told = word8(key, SLIP_KEY_TELLS);
+    let told = get::<8>(key, SLIP_KEY_TELLS);
     for slip in 0..count {
-        if word8(slips, SLIP_WIDTH * slip + SLIP_KEY_TELLS) != told {
+        if get::<8>(slips, SLIP_WIDTH * slip + SLIP_KEY_TELLS) != told {
             continue;
         }
         if slip_is(slips, slip, key) {
