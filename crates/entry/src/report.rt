@@ -5,7 +5,7 @@ ghost use Rattle.cells.specs.Bytes.{same};
 ghost use Rattle.rules.specs.Day.{day_width};
 ghost use Rattle.rules.specs.Values.{expected_of};
 
-use cells::little::word8;
+use cells::little::get;
 use rules::expected::{Expected, expected_of};
 use rules::rule::is_expected;
 
@@ -116,7 +116,7 @@ fn is_blank_date(date: &[u8]) -> bool
     requires { length date.now ≡ day_width }
     ensures { result ≡ same date.now blank_date }
 {
-    word8(date, 0) == BLANK_WORD
+    get::<8>(date, 0) == BLANK_WORD
 }
 
 // Which of its three forms an expected date has; eight blanks are told first, since most lines have them.

@@ -5,7 +5,7 @@ ghost use Rattle.cells.specs.Bytes.{same, joined};
 ghost use Rattle.entry.specs.Stored.{line_width, key_is};
 ghost use Rattle.book.specs.Asked.{key_widths, are_wide};
 
-use cells::same_wide;
+use cells::same;
 use entry::key::{
     ADDRESS_WIDTH, KEY_FIELDS, QUALIFIER_WIDTH, REFERENCE_AT, REFERENCE_FIELD, REFERENCE_WIDTH,
     SECOND_PARTY_AT,
@@ -18,7 +18,7 @@ fn field_is(lines: &[u8], at: usize, width: usize, field: &[u8]) -> bool
     ensures { result ≡ same (slice at (at + width) lines.now) field.now }
 {
     let end = at + width;
-    same_wide(&lines[at..end], &field[0..width])
+    same(&lines[at..end], &field[0..width])
 }
 
 // Whether an address stands at a place, and its qualifier after it.

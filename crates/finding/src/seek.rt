@@ -7,7 +7,7 @@ ghost use Rattle.book.specs.Lent.{most_lines, lent, room_sound, sound};
 ghost use Rattle.book.specs.Asked.{key_widths, are_wide};
 
 use crate::keyed::key_is;
-use cells::little::word8;
+use cells::little::get;
 use entry::key::{KEY_FIELDS, REFERENCE_FIELD, REFERENCE_TELLS, SCHOOL_FIELD, SCHOOL_TELLS};
 use stored::{
     KEY_TELLS, LINE_WIDTH, SLIP_KEY_TELLS, SLIP_WIDTH, is_line_sound, open_at, slip_is, slip_line,
@@ -22,16 +22,16 @@ pub fn find_line(lines: &[u8], count: usize, key: [&[u8]; KEY_FIELDS]) -> Option
     requires { (line_width * count ≤ length lines.now) × (are_wide key_widths (map (λ x. x.now) key) ≡ true) }
     ensures { result ≡ first_from (key_is lines.now (joined (map (λ x. x.now) key.entry))) count 0 }
 {
-    let school = word8(key[SCHOOL_FIELD], SCHOOL_TELLS);
-    let reference = word8(key[REFERENCE_FIELD], REFERENCE_TELLS);
+    let school = get::<8>(key[SCHOOL_FIELD], SCHOOL_TELLS);
+    let reference = get::<8>(key[REFERENCE_FIELD], REFERENCE_TELLS);
     let mut i: usize = 0;
     while i < count {
         let line = i;
         i += 1;
-        if word8(lines, LINE_WIDTH * line + KEY_TELLS) != reference {
+        if get::<8>(lines, LINE_WIDTH * line + KEY_TELLS) != reference {
             continue;
         }
-        if word8(lines, LINE_WIDTH * line + SCHOOL_TELLS) != school {
+        if get::<8>(lines, LINE_WIDTH * line + SCHOOL_TELLS) != school {
             continue;
         }
         if key_is(lines, line, key) {
@@ -46,12 +46,12 @@ pub fn find_slip(slips: &[u8], count: usize, key: &[u8]) -> Option<usize>
     requires { (slip_width * count ≤ length slips.now) × (length key.now ≡ slip_key_width) }
     ensures { result ≡ first_from (slip_is slips.now key.now) count 0 }
 {
-    let told = word8(key, SLIP_KEY_TELLS);
+    let told = get::<8>(key, SLIP_KEY_TELLS);
     let mut j: usize = 0;
     while j < count {
         let slip = j;
         j += 1;
-        if word8(slips, SLIP_WIDTH * slip + SLIP_KEY_TELLS) != told {
+        if get::<8>(slips, SLIP_WIDTH * slip + SLIP_KEY_TELLS) != told {
             continue;
         }
         if slip_is(slips, slip, key) {

@@ -5,8 +5,8 @@ ghost use Rattle.std.specs.Prelude.{◌≡◌, ◌++◌, ◌+◌, ◌*◌, ◌�
 ghost use Rattle.entry.specs.Stored.{line_width, ordered_at, slip_width, slip_key_width, line_at, date_at, article_is, school_is, open_at, put_arrived, put_report, add_line, line_sound, slip_is, slip_line_at, slip_copies_at, add_slip};
 ghost use Rattle.rules.specs.Day.{day_width};
 
-use cells::little::{get2, get4, put2, put4};
-use cells::{paste_at, same_wide};
+use cells::little::{get, put};
+use cells::{paste_at, same};
 use entry::key::{REFERENCE_AT, REFERENCE_TELLS, SCHOOL_WIDTH};
 use entry::line::{Line, Mark, mark_byte, mark_of, missing, open_of};
 use entry::report::{Message, expected_date, is_report_sound, message_number, message_of};
@@ -59,11 +59,11 @@ pub fn read_line(lines: &[u8], i: usize) -> Line
     ensures { result ≡ line_at lines.now i }
 {
     let at = LINE_WIDTH * i;
-    let ordered = Copies(get2(lines, at + ORDERED_AT));
+    let ordered = Copies(get::<2>(lines, at + ORDERED_AT));
     let mark = mark_of(lines[at + MARK_AT]);
-    let message = message_of(get2(lines, at + MESSAGE_AT));
+    let message = message_of(get::<2>(lines, at + MESSAGE_AT));
     let expected = expected_date(date_at(lines, i));
-    let arrived = Copies(get4(lines, at + ARRIVED_AT));
+    let arrived = Copies(get::<4>(lines, at + ARRIVED_AT));
     Line {
         ordered,
         arrived,
@@ -78,7 +78,7 @@ pub fn write_arrived(lines: &mut [u8], i: usize, arrived: Copies)
     requires { line_width * i + line_width ≤ length lines.old }
     ensures { lines.new ≡ put_arrived lines.old i arrived }
 {
-    put4(lines, LINE_WIDTH * i + ARRIVED_AT, arrived.0);
+    put::<4>(lines, LINE_WIDTH * i + ARRIVED_AT, arrived.0);
 }
 
 // What a report says of the line with an index; the expected date is given as it stands in the record.
@@ -88,7 +88,7 @@ pub fn write_report(lines: &mut [u8], i: usize, mark: Mark, message: Message, da
 {
     let at = LINE_WIDTH * i;
     lines[at + MARK_AT] = mark_byte(mark);
-    put2(lines, at + MESSAGE_AT, message_number(message));
+    put::<2>(lines, at + MESSAGE_AT, message_number(message));
     paste_at(lines, at + EXPECTED_AT, date);
 }
 
@@ -100,7 +100,7 @@ pub fn write_new_line(lines: &mut [u8], i: usize, front: &[u8], back: &[u8], ord
     let at = LINE_WIDTH * i;
     paste_at(lines, at, front);
     paste_at(lines, at + front.len(), back);
-    put2(lines, at + ORDERED_AT, ordered.0);
+    put::<2>(lines, at + ORDERED_AT, ordered.0);
     write_report(lines, i, Mark::Unmarked, Message::NoReport, b"        ");
     write_arrived(lines, i, Copies(0));
 }
@@ -113,7 +113,7 @@ pub fn article_is(lines: &[u8], i: usize, article: &[u8]) -> bool
     let line = LINE_WIDTH * i;
     let at = line + KEY_WIDTH;
     let end = line + ORDERED_AT;
-    same_wide(&lines[at..end], article)
+    same(&lines[at..end], article)
 }
 
 // Whether the line with an index is a school's, compared in place.
@@ -123,7 +123,7 @@ fn school_is(lines: &[u8], i: usize, school: &[u8]) -> bool
 {
     let at = LINE_WIDTH * i;
     let end = at + SCHOOL_WIDTH;
-    same_wide(&lines[at..end], school)
+    same(&lines[at..end], school)
 }
 
 // The open copies of the line with an index where it is a school's, else none.
@@ -135,8 +135,8 @@ pub fn open_at(lines: &[u8], i: usize, school: &[u8]) -> u64
         return 0;
     }
     let at = LINE_WIDTH * i;
-    let ordered = Copies(get2(lines, at + ORDERED_AT));
-    let arrived = Copies(get4(lines, at + ARRIVED_AT));
+    let ordered = Copies(get::<2>(lines, at + ORDERED_AT));
+    let arrived = Copies(get::<4>(lines, at + ARRIVED_AT));
     let mark = mark_of(lines[at + MARK_AT]);
     open_of(mark, missing(ordered, arrived)).0
 }
@@ -147,15 +147,15 @@ pub fn is_line_sound(lines: &[u8], i: usize) -> bool
     ensures { result ≡ line_sound lines.now i }
 {
     let at = LINE_WIDTH * i;
-    let ordered = get2(lines, at + ORDERED_AT);
+    let ordered = get::<2>(lines, at + ORDERED_AT);
     if !((1 <= ordered) & (ordered <= MOST_COPIES)) {
         return false;
     }
-    if MOST_ARRIVED < get4(lines, at + ARRIVED_AT) {
+    if MOST_ARRIVED < get::<4>(lines, at + ARRIVED_AT) {
         return false;
     }
     let mark = lines[at + MARK_AT];
-    let message = get2(lines, at + MESSAGE_AT);
+    let message = get::<2>(lines, at + MESSAGE_AT);
     is_report_sound(mark, message, date_at(lines, i))
 }
 
@@ -166,7 +166,7 @@ pub fn slip_is(slips: &[u8], j: usize, key: &[u8]) -> bool
 {
     let at = SLIP_WIDTH * j;
     let end = at + SLIP_KEY_WIDTH;
-    same_wide(&slips[at..end], key)
+    same(&slips[at..end], key)
 }
 
 // The index of a slip's line.
@@ -174,14 +174,14 @@ pub fn slip_line(slips: &[u8], j: usize) -> usize
     requires { slip_width * j + slip_width ≤ length slips.now }
     ensures { result ≡ slip_line_at slips.now j }
 {
-    get2(slips, SLIP_WIDTH * j + SLIP_KEY_WIDTH) as usize
+    get::<2>(slips, SLIP_WIDTH * j + SLIP_KEY_WIDTH) as usize
 }
 
 pub fn slip_copies(slips: &[u8], j: usize) -> Copies
     requires { slip_width * j + slip_width ≤ length slips.now }
     ensures { result ≡ slip_copies_at slips.now j }
 {
-    Copies(get2(slips, SLIP_WIDTH * j + SLIP_COPIES_AT))
+    Copies(get::<2>(slips, SLIP_WIDTH * j + SLIP_COPIES_AT))
 }
 
 // A slip with its key, the index of its line and its quantity.
@@ -191,6 +191,6 @@ pub fn write_slip(slips: &mut [u8], j: usize, key: &[u8], line: usize, copies: C
 {
     let at = SLIP_WIDTH * j;
     paste_at(slips, at, key);
-    put2(slips, at + SLIP_KEY_WIDTH, line as u64);
-    put2(slips, at + SLIP_COPIES_AT, copies.0);
+    put::<2>(slips, at + SLIP_KEY_WIDTH, line as u64);
+    put::<2>(slips, at + SLIP_COPIES_AT, copies.0);
 }
