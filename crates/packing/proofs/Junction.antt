@@ -1,4 +1,5 @@
 -- Fields judged in two steps: where the second ones begin with a loop, the step between them breaks no group and makes none.
+use Rattle.std.specs.Prelude.{None}
 use mathlib.Core.Path.{◌≡◌, refl, sym}
 use mathlib.Core.Bool.{Bool, true, false, not, ◌&&◌, ◌||◌, false≢true}
 use mathlib.Core.List.{List, [], ◌∷◌, ◌++◌}
@@ -9,7 +10,7 @@ use borrow.Author.Tests.{eqb-true, eqb-false, ne_eqb, not-true}
 use lib.Dec.{eqb}
 use lib.ListN.{length}
 use Rattle.cells.proofs.Bools.{split, and_left, and_right, or_false}
-use Rattle.record.specs.Contents.{is_in, groups, no_member, first_of, next_in, previous_in, group_with, next_member, previous_member, is_wanted, group_kept}
+use Rattle.record.specs.Contents.{is_in, groups, first_of, next_in, previous_in, group_with, next_member, previous_member, is_wanted, group_kept}
 use Rattle.record.specs.Fields.{last_id, Optional}
 use Rattle.record.specs.declared.layout.Kind.{Kind}
 use Rattle.writing.specs.Write.{◌next◌, entries, entry_of, next_id, entry_kept, fields_judged}
@@ -29,7 +30,7 @@ neither true b h = absurd (false≢true (sym h))
 neither false b h = (refl, h)
 
 -- an ID that is not "no member", and stands in no group, stands in front of none
-module _ (x : ℕ) (some : eqb x no_member ≡ false) where
+module _ (x : ℕ) (some : eqb x None ≡ false) where
   first_other : (g : List ℕ) → is_in x g ≡ false → eqb x (first_of g) ≡ false
   unfolding is_in first_of
   first_other [] h = some
@@ -53,12 +54,12 @@ module _ (x : ℕ) (some : eqb x no_member ≡ false) where
       split (is_in id g) (λ t. rw t (not-true _ (and_left (not (is_in x g)) _ h))) (λ t. rw t ih)
 
   -- so it stands there just where no next member is wanted
-  wanted_none : (id : ℕ) → in_none x groups ≡ true → is_wanted (next_member id) x ≡ eqb (next_member id) no_member
+  wanted_none : (id : ℕ) → in_none x groups ≡ true → is_wanted (next_member id) x ≡ eqb (next_member id) None
   unfolding is_wanted next_member
   wanted_none id h =
       let m = next_in id (group_with id groups) in
       let n = next_other id (group_with id groups) (group_other id groups h) in
-      rw (ne_eqb m x (λ e. eqb-false x m n (sym e))) (or_false (eqb m no_member))
+      rw (ne_eqb m x (λ e. eqb-false x m n (sym e))) (or_false (eqb m None))
 
 -- a loop after a field is as the end of the record
 group_last : (before id : ℕ) → group_kept before id part_id ≡ group_kept before id last_id
@@ -66,7 +67,7 @@ unfolding group_kept in_none is_in groups
 group_last before id = rw (wanted_none part_id refl id refl, wanted_none last_id refl id refl)
 
 -- and what stands before a loop is as nothing
-group_first : (before after : ℕ) → group_kept before part_id after ≡ group_kept no_member part_id after
+group_first : (before after : ℕ) → group_kept before part_id after ≡ group_kept None part_id after
 unfolding group_kept is_wanted next_member previous_member next_in previous_in group_with is_in groups
 group_first before after = refl
 
@@ -84,7 +85,7 @@ loops_begin (suc n) (f ∷ fs) l h at = some (eqb-true f.id part_id (and_left (e
 
 module _ (k : Kind) (contents : List ℕ) {fs : List Entry} (begins : Begins fs) where
   -- what stands before such fields does not matter
-  judged_first : {gs : List Entry} → Begins gs → (before i : ℕ) → fields_judged k contents before i gs ≡ fields_judged k contents no_member i gs
+  judged_first : {gs : List Entry} → Begins gs → (before i : ℕ) → fields_judged k contents before i gs ≡ fields_judged k contents None i gs
   unfolding fields_judged
   judged_first none before i = refl
   judged_first (some {e = e} {es = es} q) before i = rw (q, group_first before (next_id es))
@@ -98,7 +99,7 @@ module _ (k : Kind) (contents : List ℕ) {fs : List Entry} (begins : Begins fs)
 
   -- all fields are judged as the first ones, and then the second as if none stood before them
   pub judged_joined : (before i : ℕ) (es : List Entry)
-      → fields_judged k contents before i (es ++ fs) ≡ (fields_judged k contents before i es next fields_judged k contents no_member (i + length es) fs)
+      → fields_judged k contents before i (es ++ fs) ≡ (fields_judged k contents before i es next fields_judged k contents None (i + length es) fs)
   unfolding fields_judged ◌next◌
   judged_joined before i [] = rw (add-zero i) (judged_first begins before i)
   judged_joined before i (e ∷ es) =

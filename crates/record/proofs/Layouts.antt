@@ -1,17 +1,14 @@
 -- The fields of a layout, one after the other.
 use mathlib.Core.Path.{◌≡◌, ◌∙◌, ap, sym, refl}
-use mathlib.Core.Bool.{true, false, ◌&&◌}
 use mathlib.Core.List.{List, [], ◌∷◌, ◌++◌}
-use Prim.Native.Nat.{ℕ, zero, suc, ◌+◌, ◌≤◌, ◌<◌}
+use Prim.Native.Nat.{ℕ, suc, ◌+◌, ◌≤◌, ◌<◌}
 use native.Mathlib.Numerals.{add-one}
 use native.Mathlib.Omega.{arith}
-use borrow.Author.Tests.{ltb-true, ltb-false}
-use lib.Dec.{ltb}
 use lib.ListN.{length, get_or, take, drop, take-append-drop, drop_of_length-le, get_or-append, get_or-eq_default}
 use Rattle.std.proofs.lemmas.List.{get_or-take, length-take}
 use lib.Seq.{slice, take-suc, take_all, drop-cons, drop-drop}
 use Rattle.cells.specs.Bytes.{pick, among}
-use Rattle.cells.proofs.Bools.{split, and_left, and_right}
+use Rattle.cells.proofs.Bools.{split}
 use Rattle.cells.proofs.Parts.{take_from, slice_drop}
 use Rattle.signs.specs.Class.{padded}
 use Rattle.rules.specs.Rule.{texts, keeps}

@@ -6,5 +6,5 @@ use Rattle.record.proofs.layout.rest_broken.Given as goal
 abbrev pub invariant-loop-i : goal.invariant-loop-i
 invariant-loop-i l = record {
   room : l.at + total (drop l.i l.fields) ≤ 108;
-  rest : l.i + first_broken (drop l.i l.fields) (drop l.at l.s) ≡ 5 + first_broken (drop 5 l.fields) (drop 28 l.s)
+  rest : l.i + first_broken (drop l.i l.fields) (drop l.at l.s) ≡ 5 + first_broken (drop 5 l.fields) (drop 28 l.s);
 }

@@ -1,5 +1,5 @@
 -- The fields passed end where the next one starts.
-use Rattle.std.proofs.Common.{◌≡◌, ◌≤◌, length, take}
+use Rattle.std.proofs.Common.{◌≡◌, take}
 use Rattle.record.specs.Layout.{layout, total}
 use Rattle.record.proofs.layout.start_of.Given as goal
 
