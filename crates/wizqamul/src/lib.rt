@@ -17,7 +17,7 @@ ghost use Rattle.roster.specs.Schools.{account_told};
 use book::answer::{Booked, Told};
 use parts::answer::PartsRead;
 use record::answer::Checked;
-use roster::schools::{AccountTold, School, ceiling_of, find_school, told};
+use roster::schools::{AccountTold, School, said};
 use save::answer::{Loaded, Saved};
 use writing::answer::Written;
 
@@ -109,12 +109,11 @@ pub extern "C" fn wq_line<'a>(
 
 // What the roster says of an account.
 #[unsafe(no_mangle)]
+#[tactic(auto, using(roster::proofs::Told::told_is))]
 pub extern "C" fn wq_account(schools: &[School], address: &[u8], qualifier: &[u8]) -> AccountTold
     ensures { result ≡ account_told schools.now address.now qualifier.now }
 {
-    let i = find_school(schools, address, qualifier);
-    let ceiling = ceiling_of(schools, i);
-    told(schools.len(), i, ceiling)
+    AccountTold::from(said(schools, address, qualifier))
 }
 
 // Saves the lent book at the front of the output, in the new form.
