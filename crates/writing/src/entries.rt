@@ -1,8 +1,8 @@
 // The entries of a table, judged as fields to be written.
-ghost use Rattle.std.specs.Prelude.{◌≡◌, ◌-◌, ◌*◌, ◌≤◌, ◌<◌, drop, Ok, Err, MatchResult};
+ghost use Rattle.std.specs.Prelude.{◌≡◌, ◌-◌, ◌*◌, ◌≤◌, ◌<◌, drop, Ok, Err, MatchResult, None};
 ghost use Rattle.cells.specs.Bytes.{all};
 ghost use Rattle.record.specs.Layout.{most_bytes, most_fields};
-ghost use Rattle.record.specs.Contents.{content_kept, no_member};
+ghost use Rattle.record.specs.Contents.{content_kept};
 ghost use Rattle.record.specs.Read.{entry_width};
 ghost use Rattle.writing.specs.Widths.{width_after, capped};
 ghost use Rattle.writing.specs.Write.{entry_of, entries, content_in, content_byte, writable, next_id, entry_kept, fields_judged, lent_judged};
@@ -10,7 +10,7 @@ ghost use Rattle.writing.specs.Write.{entry_of, entries, content_in, content_byt
 use crate::answer::{Refusal, Verdict};
 use crate::lent::{InsideFields, LentFields};
 use cells::part;
-use record::contents::{NO_MEMBER, group_kept, is_guarded, rule_kept};
+use record::contents::{group_kept, is_guarded, rule_kept};
 use record::fields::{ENTRY_WIDTH, HEAD_WIDTH, LAST_ID};
 use record::layout::{Kind, MOST_BYTES};
 use signs::{Class, STAR, all_of, belongs_to};
@@ -131,9 +131,9 @@ impl<'a> LentFields<'a> {
     // 9 and 10 at each field.
     #[tactic(auto, using(crate::proofs::Tables::judged_on))]
     pub fn judge(self, k: Kind) -> Verdict
-        ensures { result ≡ fields_judged k self.entry.contents.now no_member 0 (entries self.entry.count self.entry.table.now) }
+        ensures { result ≡ fields_judged k self.entry.contents.now None 0 (entries self.entry.count self.entry.table.now) }
     {
-        let mut before: usize = NO_MEMBER;
+        let mut before = None;
         for i in 0..self.count {
             let e = self.entry(i);
             if !keeps_entry(k, self.contents, e) {
@@ -142,7 +142,7 @@ impl<'a> LentFields<'a> {
             if !group_kept(before, e.id, self.next_id(i + 1)) {
                 return Err(Refusal::Group(i));
             }
-            before = e.id;
+            before = Some(e.id);
         }
         Ok(0)
     }

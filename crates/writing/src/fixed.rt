@@ -4,25 +4,24 @@ ghost use Rattle.record.specs.Layout.{layout, kind_of};
 ghost use Rattle.writing.specs.Write.{field_holding, first_faulty, fixed_judged};
 
 use crate::answer::{Refusal, Verdict};
-use record::layout::{Kind, field_count, first_broken, fixed_width, kind_of, size_of};
+use record::layout::{Kind, first_broken, fixed_width, kind_of, layout};
 use signs::allowed_run;
 
 // The index of the field that the byte at a place stands in, or the number of fields past them.
+#[tactic(auto, using(crate::proofs::Holding::holding))]
 pub fn field_holding(k: Kind, place: usize) -> usize
     ensures { result ≡ field_holding (layout k) place }
 {
-    let count = field_count(k);
+    let fields = layout(k);
     let mut left = place;
-    let mut i: usize = 0;
-    while i < count {
-        let size = size_of(k, i);
+    for i in 0..fields.len() {
+        let size = fields[i].size;
         if left < size {
             return i;
         }
         left -= size;
-        i += 1;
     }
-    i
+    fields.len()
 }
 
 fn smaller(a: usize, b: usize) -> usize
@@ -54,7 +53,7 @@ pub fn judge_fixed(fixed: &[u8]) -> Verdict
                 return Err(Refusal::FixedField(0));
             }
             let faulty = first_faulty(k, fixed);
-            if faulty != field_count(k) {
+            if faulty != layout(k).len() {
                 return Err(Refusal::FixedField(faulty));
             }
             Ok(0)
