@@ -10,22 +10,25 @@ use Rattle.record.specs.declared.layout.Field.{Field}
 use Rattle.record.proofs.Layouts.{field_here}
 use Rattle.writing.specs.Write.{field_holding}
 
--- the field with index i, of a size, where left bytes stand before the byte from that field on
-module _ (fs : List Field) (i : ℕ) (h : i < length fs) (size : ℕ) (e : size ≡ (get_or fs i no_field).size) (left : ℕ) where
-  -- the byte stands in it
-  pub held_here : left < size → field_holding (drop i fs) left ≡ 0
+-- where left bytes stand before a byte from the field with index i on
+module _ (fs : List Field) (i left : ℕ) where
+  -- the byte stands in that field
+  pub held_here : i < length fs → left < (get_or fs i no_field).size → field_holding (drop i fs) left ≡ 0
   unfolding field_holding
-  held_here q = rw (field_here fs i h (get_or fs i no_field) refl, ← e, lt-ltb left size q)
+  held_here h q = rw (field_here fs i h (get_or fs i no_field) refl, lt-ltb left _ q)
 
-  -- the byte stands after it
-  pub held_after : size ≤ left → field_holding (drop i fs) left ≡ suc (field_holding (drop (i + 1) fs) (left - size))
+  -- or after it
+  pub held_after : i < length fs → (get_or fs i no_field).size ≤ left
+      → field_holding (drop i fs) left ≡ suc (field_holding (drop (i + 1) fs) (left - (get_or fs i no_field).size))
   unfolding field_holding
-  held_after q = rw (field_here fs i h (get_or fs i no_field) refl, ← e, le-ltb left size q)
+  held_after h q = rw (field_here fs i h (get_or fs i no_field) refl, le-ltb left _ q)
 
--- past the last field nothing is left to count
-pub held_past : (fs : List Field) (i left : ℕ) → length fs ≤ i → field_holding (drop i fs) left ≡ 0
-unfolding field_holding
-held_past fs i left h = rw (drop_of_length-le fs {i = i} h)
+  -- past the last field nothing is left to count
+  pub held_past : length fs ≤ i → field_holding (drop i fs) left ≡ 0
+  unfolding field_holding
+  held_past h = rw (drop_of_length-le fs {i = i} h)
+
+pub ruleset held = (held_here, held_after, held_past)
 
 -- a byte past all fields stands in none of them
 pub held_none : (fs : List Field) (p : ℕ) → total fs ≤ p → field_holding fs p ≡ length fs
