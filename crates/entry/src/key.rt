@@ -1,4 +1,10 @@
-// The fields of keys and articles: how wide they are, and where they stand in an entry. Both keys begin with two addresses, each with its qualifier.
+// The fields of keys and articles: how wide they are, where they stand in an entry, and whether one stands at a place. Both keys begin with two addresses, each with its qualifier.
+ghost use Rattle.std.specs.Prelude.{◌≡◌, ◌+◌, ◌≤◌, length};
+ghost use Rattle.std.proofs.Math.Seq.{slice};
+ghost use Rattle.cells.specs.Bytes.{same};
+
+use cells::bytes_at;
+
 pub const ADDRESS_WIDTH: usize = 10;
 
 pub const QUALIFIER_WIDTH: usize = 2;
@@ -22,6 +28,9 @@ pub const ARTICLE_AT: usize = 34;
 
 pub const ARTICLE_QUALIFIER_AT: usize = 47;
 
+// The article and its qualifier.
+pub const ARTICLE_WIDTH: usize = 15;
+
 // A slip's with the date, the slip number and the position.
 pub const DATE_AT: usize = 24;
 
@@ -39,3 +48,12 @@ pub const REFERENCE_FIELD: usize = 4;
 pub const SCHOOL_TELLS: usize = 0;
 
 pub const REFERENCE_TELLS: usize = 2;
+
+// Whether the so many bytes at a place are a field. Arrays are compared eight bytes at a time with no call, where slices that begin alike cost one.
+#[tactic(auto, using(crate::proofs::Fields::whole_field, crate::proofs::Fields::other_width, cells::proofs::Lists::same_is))]
+pub fn field_is<const N: usize>(s: &[u8], at: usize, field: &[u8]) -> bool
+    requires { at + N ≤ length s.now }
+    ensures { result ≡ same (slice at (at + N) s.now) field.now }
+{
+    field.len() == N && bytes_at::<N>(s, at) == bytes_at::<N>(field, 0)
+}
