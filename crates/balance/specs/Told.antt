@@ -1,6 +1,6 @@
 -- The book that lent bytes tell, as a list of lines and a list of slips (`ledger`), and the record that bytes are fit to book as.
-use Rattle.std.specs.Prelude.{ℕ, zero, suc, List, [], ◌∷◌, None, Option, Some}
-use Rattle.std.proofs.Math.Option.{Option, none, some}
+use Rattle.std.specs.Prelude.{ℕ, zero, suc, List, [], ◌∷◌, Option, Some, None}
+use Rattle.std.proofs.Math.Option.{Option as Known, none, some}
 use Rattle.record.specs.Layout.{kind_of}
 use Rattle.record.specs.declared.layout.Kind.{Kind}
 use Rattle.record.specs.declared.layout.Kind.TheVariants.{Order as order, Goods as goods, Closing as closing, Report as report}
@@ -22,13 +22,13 @@ listed f zero i = []
 listed f (suc n) i = f i ∷ listed f n (suc i)
 
 -- the number of a message, if it is known
-unfoldable pub known_number : Message → Option ℕ
+unfoldable pub known_number : Message → Known ℕ
 known_number NoReport = none
-known_number None = none
+known_number Unknown = none
 known_number (Numbered n) = some n
 
 -- a mark, a message and the bytes of an expected date as the last report
-unfoldable pub report_of : Mark → Message → List ℕ → Option Report
+unfoldable pub report_of : Mark → Message → List ℕ → Known Report
 report_of Unmarked n date = none
 report_of Held n date = some (record { hold = J; message = known_number n; date = date })
 report_of Dropped n date = some (record { hold = N; message = known_number n; date = date })

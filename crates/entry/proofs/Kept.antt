@@ -10,6 +10,7 @@ use native.Mathlib.Omega.{arith}
 use lib.ListN.{length, get_or, take, drop, set, length-set, length-append}
 use lib.Seq.{slice, sets, length-slice, length-sets, take_all, take_at, drop_at}
 use Rattle.cells.specs.Little.{le_at, le_bytes}
+use Rattle.cells.proofs.Lists.{same_true}
 use Rattle.cells.proofs.Numbers.{le_back}
 use Rattle.cells.proofs.Within.{part_within, front_within}
 use Rattle.cells.proofs.Stores.{sets_before, sets_after, sets_in, sets_part, sets_aside, le_ext, le_in, part_ext, number_ext, front_ext}
@@ -253,6 +254,9 @@ ordered_back ls i n h a =
 pub blank_date_law : expected_of blank_date ≡ Blanks
 unfolding expected_of dated is_day all_of all belongs
 blank_date_law = refl
+
+pub blank_dated : (date : List ℕ) → same date blank_date ≡ true → expected_of date ≡ Blanks
+blank_dated date e = rw (same_true date blank_date e) blank_date_law
 
 -- the room while a new line is written at i: with its key and article, then with Q, then with no report
 abbrev with_name : List ℕ → ℕ → List ℕ → List ℕ

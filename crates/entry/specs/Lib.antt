@@ -1,3 +1,4 @@
 pub mod Report
 pub mod Line
 pub mod Stored
+pub mod Keyed

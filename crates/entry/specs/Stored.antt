@@ -24,6 +24,16 @@ key_width = 34
 abbrev pub ordered_at : ℕ
 ordered_at = 49
 
+-- the fields of a key: a party's address and its qualifier, and the reference (RULES 6.1)
+abbrev pub address_width : ℕ
+address_width = 10
+
+abbrev pub qualifier_width : ℕ
+qualifier_width = 2
+
+abbrev pub reference_width : ℕ
+reference_width = 10
+
 -- school address and qualifier head the key
 abbrev pub school_width : ℕ
 school_width = 12

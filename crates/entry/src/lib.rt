@@ -3,4 +3,5 @@
 
 pub mod key;
 pub mod line;
+pub mod line_key;
 pub mod report;

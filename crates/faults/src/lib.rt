@@ -7,7 +7,7 @@ ghost use Rattle.parts.specs.Part.{most_digits, price_width, part_width, lent_pr
 ghost use Rattle.parts.specs.Fields.{amount_text, article_text, lent_loop, lent_fields};
 ghost use Rattle.lent_parts.specs.Faults.{is_kept, first_fault, price_loop, fields_text};
 
-use cells::little::word8;
+use cells::little::get;
 use cells::part;
 use lent_parts::lent::is_medium;
 use parts::entry::{
@@ -53,7 +53,7 @@ fn is_amount(s: &[u8], at: usize) -> bool
     if MOST_DIGITS < digits {
         return false;
     }
-    word8(s, at) < power(digits)
+    get::<8>(s, at) < power(digits)
 }
 
 // The first field of the price at a place that cannot be written, or three.

@@ -6,7 +6,7 @@ ghost use Rattle.save.specs.Form.{line_body_width, front_of, slips_at};
 ghost use Rattle.save.specs.Saved.{saved_slip_width, joined_from, slip_in};
 ghost use Rattle.save.specs.Load.{line_from, loaded_line};
 
-use cells::little::put4;
+use cells::little::put;
 use cells::paste_at;
 use fronts::put_front;
 use kept::body_in;
@@ -22,7 +22,7 @@ fn take_line(lines: &mut [u8], i: usize, form: Form, body: &[u8], arrived: Copie
 {
     let at = LINE_WIDTH * i;
     put_front(lines, at, form, body);
-    put4(lines, at + ARRIVED_AT, arrived.0);
+    put::<4>(lines, at + ARRIVED_AT, arrived.0);
 }
 
 // The lines of a save of n lines and m slips, each with the sum of its slips as A.

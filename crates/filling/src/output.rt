@@ -6,7 +6,7 @@ ghost use Rattle.save.specs.Form.{slips_at};
 ghost use Rattle.save.specs.Saved.{saved_slip_width, end_width, line_front_at, slip_body_at, line_entries, slip_entries, end_entry};
 ghost use Rattle.save.specs.declared.form.Form.TheVariants.{New};
 
-use cells::little::put2;
+use cells::little::put;
 use cells::paste_at;
 use fronts::put_line;
 use kept::SAVED_SLIP_WIDTH;
@@ -62,6 +62,6 @@ pub fn put_end(out: &mut [u8], at: usize, n: usize, m: usize)
     ensures { out.new ≡ sets out.old at (end_entry n m) }
 {
     out[at] = END_KIND;
-    put2(out, at + 1, n as u64);
-    put2(out, at + 3, m as u64);
+    put::<2>(out, at + 1, n as u64);
+    put::<2>(out, at + 3, m as u64);
 }

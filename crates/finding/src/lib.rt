@@ -2,4 +2,6 @@
 #![tactic(auto)]
 
 pub mod keyed;
+pub mod lent;
 pub mod seek;
+pub mod sound;

@@ -5,7 +5,7 @@ ghost use Rattle.std.specs.Prelude.{◌≡◌, ◌∷◌, ◌+◌, ◌≤◌, le
 ghost use Rattle.std.proofs.lemmas.List.Edits.{sets};
 ghost use Rattle.save.specs.Form.{front_width, line_kind, line_body_width, unsaved_width, unsaved_message, unsaved, front_of, saved_line_width};
 
-use cells::little::put2;
+use cells::little::put;
 use cells::{part, paste_at};
 use entry::report::{MESSAGE_UNKNOWN, NO_MARK, NO_REPORT};
 use save::form::{Form, KIND_BYTE, line_kind};
@@ -28,7 +28,7 @@ fn put_unsaved(out: &mut [u8], at: usize, mark: u8)
     requires { at + unsaved_width ≤ length out.old }
     ensures { out.new ≡ sets out.old at (unsaved mark) }
 {
-    put2(out, at, unsaved_message(mark));
+    put::<2>(out, at, unsaved_message(mark));
     paste_at(out, at + MESSAGE_WIDTH, b"        ");
 }
 

@@ -15,7 +15,7 @@ use record::places::{
     ARTICLE, ORDER_ARTICLE, ORDER_MEASURE, ORDER_QUANTITY, ORDER_REFERENCE, PARTIES_END, POSITION,
     PRICE, QUANTITY, RECIPIENT, REFERENCE, REPORT_ARTICLE, REPORT_REFERENCE, SENDER, SLIP,
 };
-use roster::{standing_on};
+use roster::standing_on;
 use rules::amount::{Copies, copies_of};
 use signs::{Class, all_of};
 

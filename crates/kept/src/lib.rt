@@ -8,7 +8,7 @@ ghost use Rattle.save.specs.Saved.{slip_body_width, body_in, line_in};
 ghost use Rattle.record.specs.Layout.{first_broken};
 ghost use Rattle.book.specs.Booking.{slip_fields};
 
-use cells::little::get2;
+use cells::little::get;
 use cells::{part, same};
 use entry::key::{
     ARTICLE_AT, ARTICLE_QUALIFIER_AT, DATE_AT, FIRST_QUALIFIER_AT, PARTIES_WIDTH, POSITION_AT,
@@ -91,7 +91,7 @@ fn is_report_kept(form: Form, body: &[u8]) -> bool
         Form::New => {
             is_report_sound(
                 mark,
-                get2(body, MESSAGE_AT),
+                get::<2>(body, MESSAGE_AT),
                 part(body, EXPECTED_AT, FRONT_WIDTH),
             )
         }
@@ -106,7 +106,7 @@ pub fn is_line_kept(form: Form, body: &[u8]) -> bool
     if !is_line_named(part(body, 0, ORDERED_AT)) {
         return false;
     }
-    let ordered = get2(body, ORDERED_AT);
+    let ordered = get::<2>(body, ORDERED_AT);
     ((1 <= ordered) & (ordered <= MOST_COPIES)) & is_report_kept(form, body)
 }
 
@@ -141,11 +141,11 @@ pub fn is_slip_kept(s: &[u8], form: Form, n: usize, body: &[u8]) -> bool
     if !is_slip_key(part(body, 0, SLIP_KEY_WIDTH)) {
         return false;
     }
-    let copies = get2(body, SLIP_COPIES_AT);
+    let copies = get::<2>(body, SLIP_COPIES_AT);
     if !((1 <= copies) & (copies <= MOST_COPIES)) {
         return false;
     }
-    let i = get2(body, SLIP_KEY_WIDTH) as usize;
+    let i = get::<2>(body, SLIP_KEY_WIDTH) as usize;
     if n <= i {
         return false;
     }

@@ -2,7 +2,7 @@
 ghost use Rattle.std.specs.Prelude.{◌≡◌, ◌+◌, ◌≤◌, length, get_or};
 ghost use Rattle.parts.specs.Part.{price_width, part_width, medium_at, medium_in, is_medium, lent_price, lent_article, lent_part};
 
-use cells::little::word8;
+use cells::little::get;
 use cells::part;
 use parts::entry::{
     ARTICLE, ARTICLE_QUALIFIER, CURRENCY, DIGITS, LENGTH, LIST, MEDIUM, NET, PART_WIDTH,
@@ -35,7 +35,7 @@ fn lent_price(s: &[u8], at: usize) -> PartPrice
     requires { at + price_width ≤ length s.now }
     ensures { result ≡ lent_price s.now at }
 {
-    let amount = Price(word8(s, at));
+    let amount = Price(get::<8>(s, at));
     let qualifier = fitted2(part(s, at + PRICE_QUALIFIER, at + CURRENCY));
     let currency = fitted3(part(s, at + CURRENCY, at + PRICE_WIDTH));
     PartPrice {

@@ -8,7 +8,7 @@ ghost use Rattle.save.specs.Saved.{written, line_entries, line_in, stated_lines,
 ghost use Rattle.save.specs.Moves.{moved, moved_into, to_new, none_numbered, to_old};
 ghost use Rattle.save.specs.declared.form.Form.TheVariants.{New};
 
-use cells::little::get2;
+use cells::little::get;
 use cells::paste_at;
 use entry::report::MOST_MESSAGE;
 use fronts::put_line;
@@ -46,8 +46,8 @@ fn move_into(saved: &[u8], from: Form, to: Form, out: &mut [u8]) -> Saved
     requires { is_save_of from saved.now ≡ true }
     ensures { written result out.new ≡ moved_into from to saved.now out.old }
 {
-    let n = get2(saved, saved.len() - LINES_BACK) as usize;
-    let m = get2(saved, saved.len() - SLIPS_BACK) as usize;
+    let n = get::<2>(saved, saved.len() - LINES_BACK) as usize;
+    let m = get::<2>(saved, saved.len() - SLIPS_BACK) as usize;
     let length = slips_at(to, n) + SAVED_SLIP_WIDTH * m + END_WIDTH;
     if out.len() < length {
         return not_saved(Refused::TooSmall);
@@ -71,10 +71,10 @@ fn is_none_numbered(saved: &[u8]) -> bool
     requires { is_save_of New saved.now ≡ true }
     ensures { result ≡ none_numbered saved.now }
 {
-    let n = get2(saved, saved.len() - LINES_BACK) as usize;
+    let n = get::<2>(saved, saved.len() - LINES_BACK) as usize;
     let mut i: usize = 0;
     while i < n {
-        if get2(body_in(saved, Form::New, i), MESSAGE_AT) <= MOST_MESSAGE {
+        if get::<2>(body_in(saved, Form::New, i), MESSAGE_AT) <= MOST_MESSAGE {
             return false;
         }
         i += 1;

@@ -9,7 +9,7 @@ ghost use Rattle.own.specs.Own.{parties_end, account_by, own_entry, book_own};
 
 use book::answer::Booked;
 use booking::book;
-use cells::little::put4;
+use cells::little::put;
 use cells::{part, paste_at};
 use record::layout::{Kind, kind_of};
 use record::places::{PARTIES_END, RECIPIENT, SENDER};
@@ -40,7 +40,7 @@ fn own_entry(s: &[u8]) -> [u8; 16]
 {
     let mut entry = [0u8; 16];
     paste_at(&mut entry, 0, own_account(s));
-    put4(&mut entry, ACCOUNT_WIDTH, HIGHEST_CEILING);
+    put::<4>(&mut entry, ACCOUNT_WIDTH, HIGHEST_CEILING);
     entry
 }
 

@@ -10,7 +10,7 @@ ghost use Rattle.parts.specs.Part.{price_width, part_width, medium_in, is_medium
 ghost use Rattle.parts.specs.Fields.{amount_text, medium_text, lent_loop, lent_fields};
 ghost use Rattle.lent_parts.specs.Faults.{is_kept, first_fault, price_loop, fields_text};
 
-use cells::little::word8;
+use cells::little::get;
 use cells::{part, paste_at};
 use parts::entry::{
     ARTICLE, ARTICLE_QUALIFIER, CURRENCY, DIGITS, LENGTH, LIST, MEDIUM, NET, PART_WIDTH,
@@ -51,7 +51,7 @@ fn put_price(out: &mut [u8], at: usize, s: &[u8], from: usize) -> usize
 {
     let digits = s[from + DIGITS] as usize;
     put_head(out, at, member_id(1));
-    put_digits(out, at + HEAD_WIDTH, digits, word8(s, from));
+    put_digits(out, at + HEAD_WIDTH, digits, get::<8>(s, from));
     let next = at + HEAD_WIDTH + digits;
     let last = put_field(
         out,

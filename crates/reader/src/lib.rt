@@ -8,7 +8,10 @@ ghost use Rattle.record.specs.Read.{optional_judged, kind_judged, judged, outcom
 use cells::{part, same};
 use record::answer::{Checked, ReadDelivery, ReadOrder, ReadReport, Refusal, Verdict, checked_of};
 use record::fields::{ENTRY_WIDTH, HEAD_WIDTH};
-use record::layout::{KIND_WIDTH, Kind, MOST_BYTES, MOST_FIELDS, field_count, first_broken, fixed_width, kind_of, start_of};
+use record::layout::{
+    KIND_WIDTH, Kind, MOST_BYTES, MOST_FIELDS, field_count, first_broken, fixed_width, kind_of,
+    start_of,
+};
 use signs::allowed_run;
 use values::{delivery_of, no_delivery, no_order, no_report, order_of, report_of};
 

@@ -6,8 +6,8 @@ ghost use Rattle.roster.specs.Roster.{entry_width, roster_sound, account_is, fin
 
 pub mod schools;
 
-use cells::little::get4;
-use cells::same_wide;
+use cells::little::get;
+use cells::same;
 
 // An entry: address 10, qualifier 2, ceiling 4. The first two are the account.
 pub const ENTRY_WIDTH: usize = 16;
@@ -30,7 +30,7 @@ fn account_is(roster: &[u8], i: usize, account: &[u8]) -> bool
 {
     let at = ENTRY_WIDTH * i;
     let end = at + ACCOUNT_WIDTH;
-    same_wide(&roster[at..end], account)
+    same(&roster[at..end], account)
 }
 
 // The first entry with an account.
@@ -54,6 +54,6 @@ pub fn standing_on(roster: &[u8], account: &[u8]) -> Option<u64>
 {
     match find_account(roster, account) {
         None => None,
-        Some(i) => Some(get4(roster, ENTRY_WIDTH * i + ACCOUNT_WIDTH)),
+        Some(i) => Some(get::<4>(roster, ENTRY_WIDTH * i + ACCOUNT_WIDTH)),
     }
 }

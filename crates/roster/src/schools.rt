@@ -4,7 +4,7 @@ ghost use Rattle.std.specs.Prelude.{◌≡◌, ◌<◌, length};
 ghost use Rattle.roster.specs.Schools.{is_of, is_account, place_in, find_school, ceiling_of, told_at};
 
 use crate::MOST_SCHOOLS;
-use cells::{same, same_wide};
+use cells::same;
 
 // An entry of the roster: in memory the 16 bytes of one.
 #[repr(C)]
@@ -34,7 +34,7 @@ fn is_of(school: School, address: &[u8], qualifier: &[u8]) -> bool
     ensures { result ≡ is_of school address.now qualifier.now }
 {
     let a = school.address;
-    if !same_wide(&a, address) {
+    if !same(&a, address) {
         return false;
     }
     let q = school.qualifier;

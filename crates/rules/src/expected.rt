@@ -2,7 +2,7 @@
 ghost use Rattle.std.specs.Prelude.{◌≡◌};
 ghost use Rattle.rules.specs.Values.{expected_of};
 
-use crate::day::{Day};
+use crate::day::Day;
 use signs::{Class, all_of};
 
 // A day, eight zeros (document 001) or eight blanks (document 004); which of the three it was is kept.

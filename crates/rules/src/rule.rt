@@ -6,7 +6,7 @@ ghost use Rattle.rules.specs.Day.{is_day};
 ghost use Rattle.rules.specs.Rule.{row_texts, texts, day_count, expected, keeps};
 
 use crate::article::is_article;
-use crate::day::{Day};
+use crate::day::Day;
 use crate::number::number_of;
 use cells::{part, same};
 use signs::{Class, is_named, is_padded, of_class};

@@ -8,7 +8,7 @@ ghost use Rattle.save.specs.Entries.{is_first, copies_on, arrived_on, lines_kept
 ghost use Rattle.save.specs.Form.{saved_line_width, slips_at};
 ghost use Rattle.save.specs.Saved.{saved_slip_width, line_in, slip_in, all_of_kind, in_form, is_save_of, form_in};
 
-use cells::little::get2;
+use cells::little::get;
 use cells::same_by;
 use kept::{SAVED_SLIP_WIDTH, body_in, is_line_kept, is_slip_kept};
 use rules::amount::Copies;
@@ -99,8 +99,8 @@ fn copies_on(s: &[u8], at: usize, j: usize, i: usize) -> Copies
     ensures { (result ≡ copies (copies_on (slip_in s.now at) i j)) × (result.0 < 65536) }
 {
     let from = at + SAVED_SLIP_WIDTH * j + KIND_BYTE;
-    if get2(s, from + SLIP_KEY_WIDTH) as usize == i {
-        return Copies(get2(s, from + SLIP_COPIES_AT));
+    if get::<2>(s, from + SLIP_KEY_WIDTH) as usize == i {
+        return Copies(get::<2>(s, from + SLIP_COPIES_AT));
     }
     Copies(0)
 }
@@ -216,8 +216,8 @@ pub fn is_save_of(s: &[u8], form: Form) -> bool
     if s.len() < END_WIDTH {
         return false;
     }
-    let n = get2(s, s.len() - LINES_BACK) as usize;
-    let m = get2(s, s.len() - SLIPS_BACK) as usize;
+    let n = get::<2>(s, s.len() - LINES_BACK) as usize;
+    let m = get::<2>(s, s.len() - SLIPS_BACK) as usize;
     if !is_in_form(s, form, n, m) {
         return false;
     }

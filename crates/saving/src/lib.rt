@@ -8,7 +8,7 @@ ghost use Rattle.save.specs.Form.{slips_at};
 ghost use Rattle.save.specs.Saved.{saved_slip_width, written, save};
 ghost use Rattle.save.specs.Load.{lent_loaded, outcome, load};
 
-use cells::little::get2;
+use cells::little::get;
 use filling::input::{take_lines, take_slips};
 use filling::output::{put_end, put_lines, put_slips};
 use finding::seek::{MOST_LINES, MOST_SLIPS, is_room, is_sound};
@@ -71,8 +71,8 @@ pub fn load(saved: &[u8], lines: &mut [u8], slips: &mut [u8], used: &mut [usize;
     if !is_save_of(saved, form) {
         return not_loaded(Refused::NoSave);
     }
-    let n = get2(saved, saved.len() - LINES_BACK) as usize;
-    let m = get2(saved, saved.len() - SLIPS_BACK) as usize;
+    let n = get::<2>(saved, saved.len() - LINES_BACK) as usize;
+    let m = get::<2>(saved, saved.len() - SLIPS_BACK) as usize;
     if (lines.len() / LINE_WIDTH < n) | (slips.len() / SLIP_WIDTH < m) {
         return not_loaded(Refused::TooSmall);
     }

@@ -3,7 +3,7 @@ ghost use Rattle.std.specs.Prelude.{◌≡◌, ◌+◌, ◌≤◌, length};
 ghost use Rattle.std.proofs.lemmas.List.Edits.{sets};
 ghost use Rattle.parts.specs.Part.{price_bytes, price_width, part_bytes, part_width};
 
-use cells::little::put8;
+use cells::little::put;
 use cells::paste_at;
 use parts::entry::{
     ARTICLE, ARTICLE_QUALIFIER, CURRENCY, DIGITS, LENGTH, LIST, MEDIUM, NET, PRICE_QUALIFIER,
@@ -18,7 +18,7 @@ fn put_price(out: &mut [u8], at: usize, p: PartPrice)
 {
     let qualifier = p.qualifier;
     let currency = p.currency;
-    put8(out, at, p.amount.0);
+    put::<8>(out, at, p.amount.0);
     put_byte(out, at + DIGITS, p.digits);
     paste_at(out, at + PRICE_QUALIFIER, &qualifier);
     paste_at(out, at + CURRENCY, &currency);

@@ -16,7 +16,7 @@ use record::places::{
 };
 use record::values::{Article, Delivery, Order, Party, Report};
 use rules::amount::{Copies, Discount, Price, copies_of, discount_of, price_of};
-use rules::day::{Day};
+use rules::day::Day;
 use rules::expected::{Expected, expected_of};
 use rules::number::number_of;
 

@@ -132,6 +132,10 @@ record_text fixed fs = fixed ++ optional_text fs
 unfoldable pub length_judged : ℕ → List ℕ → Verdict
 length_judged n out = pick (ltb most_bytes n) (Err TooLong) (pick (ltb (length out) n) (Err SmallOutput) (Ok n))
 
+-- 8, then 23: so many entries of a table, where a record may have at most so many and the table has them all
+unfoldable pub lent_judged : ℕ → List ℕ → ℕ → Verdict
+lent_judged most table count = pick (ltb most count) (Err TooManyFields) (pick (ltb (length table) (count * entry_width)) (Err SmallTable) (Ok count))
+
 -- 8, 23, then 9 and 10, then 1 and 23, of a record whose fixed part keeps its rules
 unfoldable pub rest_judged : Option Kind → List ℕ → List ℕ → ℕ → List ℕ → List ℕ → Verdict
 rest_judged None fixed table count contents out = Err (FixedField 0)
