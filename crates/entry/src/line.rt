@@ -1,6 +1,5 @@
 // A line of the book as a value, taken and given back by value.
 ghost use Rattle.std.specs.Prelude.{Some, ◌≡◌, ◌+◌, ◌<◌, ◌^◌};
-ghost use Rattle.rules.specs.Values.{copies};
 ghost use Rattle.entry.specs.Line.{mark_of, mark_byte, missing, open_of, let_go_of, with_report, with_arrivals, figures_of, figures_text, reported_of};
 
 use crate::report::{Message, Reported, report_told};
@@ -27,29 +26,13 @@ pub struct Line {
 }
 
 #[repr(C)]
-#[derive(Clone, Copy, PartialEq, Eq, Debug)]
+#[derive(Clone, Copy, PartialEq, Eq, Debug, Default)]
 pub struct Figures {
     pub ordered: Copies,
     pub filled: Copies,
     pub still_open: Copies,
     pub let_go: Copies,
     pub extra: Copies,
-}
-
-// Zeros, as a refusal tells them.
-impl Default for Figures {
-    ghost is_default = { λ f. f ≡ record { ordered = copies 0; filled = copies 0; still_open = copies 0; let_go = copies 0; extra = copies 0 } };
-
-    fn default() -> Figures {
-        let none = Copies(0);
-        Figures {
-            ordered: none,
-            filled: none,
-            still_open: none,
-            let_go: none,
-            extra: none,
-        }
-    }
 }
 
 // The five numbers with a blank between, as a line is printed.
