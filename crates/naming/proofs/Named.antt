@@ -52,10 +52,9 @@ module _ (s : List ℕ) where
   unfolding line_key key_fields joined field_bytes start_of total layout
   order_key_parts = join 4 10 2 s _ ∙ join 4 12 10 s _ ∙ join 4 22 2 s _ ∙ ap (λ (r : List ℕ). slice 4 28 s ++ r) (append-nil _)
 
-  pub order_parts : {front back : List ℕ} → front ≡ slice 4 28 s → back ≡ slice 36 61 s → front ++ back ≡ line_key Order s ++ article_in Order s
-  order_parts f b =
-      ap₂ (λ (p q : List ℕ). p ++ q) f b
-      ∙ ap (λ (r : List ℕ). slice 4 28 s ++ r) (sym (parts_join 36 10 15 s))
+  pub order_parts : slice 4 28 s ++ slice 36 61 s ≡ line_key Order s ++ article_in Order s
+  order_parts =
+      ap (λ (r : List ℕ). slice 4 28 s ++ r) (sym (parts_join 36 10 15 s))
       ∙ sym (ap₂ (λ (p q : List ℕ). p ++ q) order_key_parts order_article_is ∙ append_assoc (slice 4 28 s) (slice 36 46 s) (slice 46 61 s))
 
   -- the school heads the key
