@@ -1,6 +1,7 @@
 -- A line's mark, its changes, its figures and what is told of its last report (RULES 6.2).
-use Rattle.std.specs.Prelude.{ℕ, ◌+◌, ◌-◌, min, eqb}
-use Rattle.cells.specs.Bytes.{pick}
+use Rattle.std.specs.Prelude.{ℕ, ◌+◌, ◌-◌, List, ◌++◌, min, eqb}
+use Rattle.std.specs.Fmt.{decimal}
+use Rattle.cells.specs.Bytes.{pick, bytes}
 use Rattle.rules.specs.Values.{copies}
 use Rattle.rules.specs.declared.amount.Copies.{Copies}
 use Rattle.rules.specs.declared.expected.Expected.{Expected}
@@ -65,6 +66,11 @@ figures_of l = record {
   let_go = let_go_of l.mark (not_filled l);
   extra = copies (l.arrived.0 - (filled_of l).0);
 }
+
+-- figures as they are printed, with a blank between
+unfoldable pub figures_text : Figures → List ℕ
+figures_text f =
+    decimal f.ordered.0 ++ (bytes " " ++ (decimal f.filled.0 ++ (bytes " " ++ (decimal f.still_open.0 ++ (bytes " " ++ (decimal f.let_go.0 ++ (bytes " " ++ decimal f.extra.0)))))))
 
 -- what the last report said, as it is told
 unfoldable pub reported_of : Line → Reported

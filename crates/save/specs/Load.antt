@@ -1,5 +1,5 @@
 -- Loading a save of either form into a lent book (RULES 9.4).
-use Rattle.std.specs.Prelude.{ℕ, ◌&&◌, List, ◌++◌, leb, set}
+use Rattle.std.specs.Prelude.{ℕ, Result, Ok, Err, ◌&&◌, List, ◌++◌, leb, set}
 use Rattle.std.proofs.lemmas.List.Edits.{sets}
 use Rattle.cells.specs.Bytes.{pick}
 use Rattle.cells.specs.Little.{le_bytes}
@@ -43,6 +43,11 @@ not_loaded r = record { answer = refused_number r; place = 0 }
 
 abbrev pub done_as : Loaded
 done_as = record { answer = 0; place = 0 }
+
+-- what loading says: done, or a refusal
+unfoldable pub loaded_of : Result (Unit {0}) Refused → Loaded
+loaded_of (Ok _) = done_as
+loaded_of (Err r) = not_loaded r
 
 unfoldable pub load : List ℕ → Lent → Outcome
 load s b =

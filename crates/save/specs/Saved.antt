@@ -1,5 +1,5 @@
 -- The bytes of a save in either form, saving, and the bytes that are exactly a valid save (RULES 9.2, 9.3).
-use Rattle.std.specs.Prelude.{ℕ, zero, suc, ◌+◌, ◌*◌, ◌-◌, Bool, ◌&&◌, ◌||◌, List, [], ◌∷◌, ◌++◌, eqb, leb, length, get_or, take}
+use Rattle.std.specs.Prelude.{ℕ, zero, suc, ◌+◌, ◌*◌, ◌-◌, Result, Ok, Err, Bool, ◌&&◌, ◌||◌, List, [], ◌∷◌, ◌++◌, eqb, leb, length, get_or, take}
 use Rattle.std.proofs.Math.Seq.{slice}
 use Rattle.std.proofs.lemmas.List.Edits.{sets}
 use Rattle.cells.specs.Bytes.{pick}
@@ -90,6 +90,11 @@ not_saved r = record { answer = refused_number r; place = 0; length = 0 }
 
 unfoldable pub saved_as : ℕ → Saved
 saved_as n = record { answer = 0; place = 0; length = n }
+
+-- what saving and moving say: done, with the length of what was written, or a refusal
+unfoldable pub saved_of : Result ℕ Refused → Saved
+saved_of (Ok length) = saved_as length
+saved_of (Err r) = not_saved r
 
 -- saving, with its two refusals in order (RULES 9.3)
 unfoldable pub save : Lent → List ℕ → Written

@@ -5,7 +5,7 @@ ghost use Rattle.save.specs.Form.{line_kind, line_body_width, saved_line_width, 
 use stored::{ARRIVED_AT, MESSAGE_AT};
 
 // Old: without messages and expected dates. New: with them, and the one that is written.
-#[derive(Clone, Copy)]
+#[derive(Clone, Copy, PartialEq, Eq, Debug)]
 pub enum Form {
     Old,
     New,
@@ -21,37 +21,44 @@ const OLD_KIND: u8 = 1;
 
 const NEW_KIND: u8 = 3;
 
-// The byte of kind of a line.
-pub fn line_kind(form: Form) -> u8
-    ensures { result ≡ line_kind form }
-{
-    match form {
-        Form::Old => OLD_KIND,
-        Form::New => NEW_KIND,
+// In these alone the forms differ.
+impl Form {
+    // The byte of kind of a line.
+    #[tactic(auto, unfolding(crate::specs::Form::line_kind))]
+    pub fn line_kind(self) -> u8
+        ensures { result ≡ line_kind self }
+    {
+        match self {
+            Form::Old => OLD_KIND,
+            Form::New => NEW_KIND,
+        }
     }
-}
 
-// How much of a line's front its body is.
-pub fn body_width(form: Form) -> usize
-    ensures { result ≡ line_body_width form }
-{
-    match form {
-        Form::Old => MESSAGE_AT,
-        Form::New => FRONT_WIDTH,
+    // How much of a line's front its body is.
+    #[tactic(auto, unfolding(crate::specs::Form::line_body_width))]
+    pub fn body_width(self) -> usize
+        ensures { result ≡ line_body_width self }
+    {
+        match self {
+            Form::Old => MESSAGE_AT,
+            Form::New => FRONT_WIDTH,
+        }
     }
-}
 
-// A byte of kind and a body.
-pub fn line_width(form: Form) -> usize
-    ensures { result ≡ saved_line_width form }
-{
-    KIND_BYTE + body_width(form)
-}
+    // A byte of kind and a body.
+    #[tactic(auto, unfolding(crate::specs::Form::saved_line_width), using(crate::proofs::Fronts::width_most))]
+    pub fn line_width(self) -> usize
+        ensures { result ≡ saved_line_width self }
+    {
+        KIND_BYTE + self.body_width()
+    }
 
-// Where the slips of a save stand, behind its n lines.
-pub fn slips_at(form: Form, n: usize) -> usize
-    requires { n < 65536 }
-    ensures { result ≡ slips_at form n }
-{
-    line_width(form) * n
+    // Where the slips of a save stand, behind so many lines.
+    #[tactic(auto, unfolding(crate::specs::Form::slips_at), using(crate::proofs::Bodies::slips_most))]
+    pub fn slips_at(self, lines: usize) -> usize
+        requires { lines < 65536 }
+        ensures { result ≡ slips_at self lines }
+    {
+        self.line_width() * lines
+    }
 }

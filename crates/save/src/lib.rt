@@ -3,3 +3,6 @@
 
 pub mod answer;
 pub mod form;
+pub mod lines;
+pub mod slips;
+pub mod valid;

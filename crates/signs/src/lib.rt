@@ -40,7 +40,7 @@ const FIRST_LATIN: u8 = 160;
 
 const LAST_LATIN: u8 = 255;
 
-#[derive(Clone, Copy)]
+#[derive(Clone, Copy, PartialEq, Eq, Debug)]
 pub enum Class {
     Any,
     Allowed,
@@ -58,7 +58,7 @@ pub enum Class {
 fn between(least: u8, most: u8, b: u8) -> bool
     ensures { result ≡ within least most b }
 {
-    (least <= b) & (b <= most)
+    (least..=most).contains(&b)
 }
 
 // Whether a byte is printable ASCII, or Latin-1 from 160 on.
@@ -72,7 +72,7 @@ fn is_plain(b: u8) -> bool
 fn is_unassigned(b: u8) -> bool
     ensures { result ≡ unassigned b }
 {
-    (b == 129) | ((b == 141) | ((b == 143) | ((b == 144) | (b == 157))))
+    matches!(b, 129 | 141 | 143 | 144 | 157)
 }
 
 // Whether a record may hold a byte; ASCII is told first, since most bytes are.
@@ -87,6 +87,7 @@ fn is_allowed(b: u8) -> bool
 }
 
 // Whether a byte is of a class.
+#[tactic(auto, unfolding(crate::specs::Class::belongs))]
 pub fn belongs_to(c: Class, b: u8) -> bool
     ensures { result ≡ belongs c b }
 {
@@ -98,36 +99,32 @@ pub fn belongs_to(c: Class, b: u8) -> bool
         Class::Account => between(ZERO, NINE, b) | between(LETTER_A, LETTER_Z, b),
         Class::Blank => b == BLANK,
         Class::Zero => b == ZERO,
-        Class::Unbarred => {
-            !((b == STAR) | ((b == PLUS) | ((b == COLON) | ((b == QUESTION) | (b == APOSTROPHE)))))
-        }
+        Class::Unbarred => !matches!(b, STAR | PLUS | COLON | QUESTION | APOSTROPHE),
         Class::DigitOrX => between(ZERO, NINE, b) | (b == LETTER_X),
     }
 }
 
 // How many bytes at the front are of a class.
+#[tactic(auto, using(crate::proofs::Runs::run_on, crate::proofs::Runs::run_off, crate::proofs::Runs::run_end))]
 pub fn run_of(c: Class, s: &[u8]) -> usize
     ensures { result ≡ run (belongs c) s.now }
 {
-    let mut i: usize = 0;
-    while i < s.len() {
-        if !belongs_to(c, s[i]) {
+    for (i, b) in s.iter().enumerate() {
+        if !belongs_to(c, *b) {
             return i;
         }
-        i += 1;
     }
-    i
+    s.len()
 }
 
 // Whether each byte is plain; no byte ends the loop, so that many are judged at once.
+#[tactic(auto, using(crate::proofs::Runs::all_on, crate::proofs::Runs::all_end))]
 fn are_plain(s: &[u8]) -> bool
     ensures { result ≡ all plain s.now }
 {
     let mut kept = true;
-    let mut i: usize = 0;
-    while i < s.len() {
-        kept = kept & is_plain(s[i]);
-        i += 1;
+    for b in s {
+        kept &= is_plain(*b);
     }
     kept
 }
@@ -143,6 +140,7 @@ pub fn allowed_run(s: &[u8]) -> usize
 }
 
 // Whether each byte is of a class.
+#[tactic(auto, unfolding(crate::specs::Class::belongs, crate::specs::Class::all_of), using(crate::proofs::Runs::all_run, crate::proofs::Runs::all_always))]
 pub fn all_of(c: Class, s: &[u8]) -> bool
     ensures { result ≡ all_of c s.now }
 {
@@ -153,26 +151,28 @@ pub fn all_of(c: Class, s: &[u8]) -> bool
 }
 
 // Whether there are least to most bytes, all of a class.
+#[tactic(auto, unfolding(crate::specs::Class::of_class))]
 pub fn of_class(c: Class, least: usize, most: usize, s: &[u8]) -> bool
     ensures { result ≡ of_class c least most s.now }
 {
-    let n = s.len();
-    ((least <= n) & (n <= most)) & all_of(c, s)
+    (least..=most).contains(&s.len()) & all_of(c, s)
 }
 
 // Whether least to most bytes of a class stand in front, and then blanks only.
+#[tactic(auto, unfolding(crate::specs::Class::padded))]
 pub fn is_padded(c: Class, least: usize, most: usize, s: &[u8]) -> bool
     ensures { result ≡ padded c least most s.now }
 {
     let n = run_of(c, s);
-    ((least <= n) & (n <= most)) & all_of(Class::Blank, part(s, n, s.len()))
+    (least..=most).contains(&n) & all_of(Class::Blank, part(s, n, s.len()))
 }
 
 // Whether bytes of a class are all blank, or the first is not.
+#[tactic(auto, unfolding(crate::specs::Class::named, crate::specs::Class::all_of))]
 pub fn is_named(c: Class, s: &[u8]) -> bool
     ensures { result ≡ named c s.now }
 {
-    if s.len() == 0 {
+    if s.is_empty() {
         return true;
     }
     if !all_of(c, s) {

@@ -2,7 +2,7 @@
 use mathlib.Core.Path.{◌≡◌, ◌∙◌, ap, sym, refl}
 use mathlib.Core.Bool.{true, ◌&&◌}
 use mathlib.Core.List.{List, [], ◌∷◌, ◌++◌}
-use Prim.Native.Nat.{ℕ, zero, suc, ◌+◌, ◌*◌}
+use Prim.Native.Nat.{ℕ, zero, suc, ◌+◌, ◌-◌, ◌*◌, ◌≤◌, ◌<◌}
 use native.Mathlib.Nat.{zero-add, suc-add}
 use native.Mathlib.Omega.{arith}
 use lib.ListN.{length, take, drop}
@@ -11,8 +11,10 @@ use Rattle.cells.proofs.Bools.{split, and_left, and_right}
 use Rattle.record.specs.Fields.{Optional}
 use Rattle.record.specs.Read.{entry_width}
 use Rattle.writing.specs.Widths.{all_inside}
-use Rattle.writing.specs.Write.{entries, optional_in, optional_of, inside}
+use Rattle.writing.specs.Write.{entry_of, entries, optional_in, optional_of, inside}
 use Rattle.writing.specs.declared.entries.Entry.{Entry}
+use Rattle.writing.proofs.Records.{inside_most, first_inside}
+use Rattle.writing.proofs.Tables.{entries_first}
 
 -- a table's first n entries are n
 pub entries_length : (n : ℕ) (table : List ℕ) → length (entries n table) ≡ n
@@ -71,3 +73,22 @@ module _ (contents : List ℕ) where
 
       pub inside_drop : all_inside contents (entries b (drop (a * entry_width) table)) ≡ true
       inside_drop = and_right (all_inside contents (entries a table)) _ both
+
+-- entries whose contents are inside the lent bytes
+module _ (contents : List ℕ) (n count : ℕ) (table : List ℕ) (inside : all_inside contents (entries count table) ≡ true) where
+  -- those from one of them on
+  pub inside_skip : n ≤ count → all_inside contents (entries (count - n) (drop (n * entry_width) table)) ≡ true
+  inside_skip h =
+      let e : n + (count - n) ≡ count = omega arith in
+      inside_drop contents n (count - n) table (rw e inside)
+
+  -- the first of them
+  pub inside_front : n ≤ count → all_inside contents (entries n table) ≡ true
+  inside_front h =
+      let e : n + (count - n) ≡ count = omega arith in
+      inside_take contents n (count - n) table (rw e inside)
+
+  -- and one of them
+  pub inside_at : n < count → (entry_of (drop (n * entry_width) table)).place + (entry_of (drop (n * entry_width) table)).width ≤ length contents
+  inside_at h =
+      inside_most contents (entry_of (drop (n * entry_width) table)) (first_inside (entries_first count n table h) contents (inside_skip (omega arith)))

@@ -1,7 +1,7 @@
 -- Fields stored one after the other.
 use mathlib.Core.Path.{◌≡◌, sym, ap, ◌∙◌}
 use mathlib.Core.Bool.{true}
-use mathlib.Core.List.{List, [], ◌∷◌}
+use mathlib.Core.List.{List, [], ◌∷◌, append-nil}
 use Prim.Native.Nat.{ℕ, suc, ◌+◌, ◌-◌, ◌≤◌}
 use native.Mathlib.Nat.{zero-add}
 use native.Mathlib.Numerals.{add-one}
@@ -12,7 +12,7 @@ use borrow.Author.Tests.{leb-true}
 use Rattle.cells.specs.Bytes.{bytes}
 use Rattle.cells.proofs.Bools.{and_left, and_right}
 use Rattle.cells.proofs.Stores.{sets_append}
-use Rattle.record.specs.Fields.{Optional}
+use Rattle.record.specs.Fields.{Optional, head_width}
 use Rattle.writing.specs.Digits.{digits_of}
 use Rattle.writing.specs.Widths.{width_after, all_inside}
 use Rattle.writing.specs.Write.{entries, content_in, optional_in, optional_of, inside, field_text, optional_text, record_text}
@@ -34,15 +34,18 @@ field_length contents e h =
     ap suc (length-append (digits_of 4 e.id) (slice e.place (e.place + e.width) contents))
     ∙ rw (digits_length, k) (omega arith)
 
--- the star, the digits and the content, one after the other, are the field
-pub field_stored : (l : List ℕ) (at : ℕ) (contents : List ℕ) (e : Entry)
-    → sets (sets (set l at 42) (at + 1) (digits_of 4 e.id)) (at + 5) (slice e.place (e.place + e.width) contents)
-    ≡ sets l at (field_text (optional_in contents e))
-unfolding field_text optional_in content_in
-field_stored l at contents e =
-    let k : suc at + 4 ≡ at + 5 = omega arith in
-    sym (sets_append (set l at 42) (suc at) (digits_of 4 e.id) (slice e.place (e.place + e.width) contents)
-    ∙ rw (digits_length, k, add-one))
+-- a star and four digits are a field without a content
+pub head_stored : (l : List ℕ) (at id : ℕ) → sets (set l at 42) (at + 1) (digits_of 4 id) ≡ sets l at (field_text (record { id = id; content = [] }))
+unfolding field_text
+head_stored l at id = rw (append-nil (digits_of 4 id), add-one)
+
+-- with a content behind them they are the field
+pub content_stored : (l : List ℕ) (at id : ℕ) (c : List ℕ)
+    → sets (sets l at (field_text (record { id = id; content = [] }))) (at + head_width) c ≡ sets l at (field_text (record { id = id; content = c }))
+unfolding field_text
+content_stored l at id c =
+    let k : suc at + 4 ≡ at + head_width = omega arith in
+    rw (append-nil (digits_of 4 id)) (sym (sets_append (set l at 42) (suc at) (digits_of 4 id) c ∙ rw (digits_length, k)))
 
 -- the fixed part and then the fields are the record
 pub record_stored : (l fixed : List ℕ) (fs : List Optional) → sets l 0 (record_text fixed fs) ≡ sets (sets l 0 fixed) (length fixed) (optional_text fs)

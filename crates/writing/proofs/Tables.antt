@@ -13,7 +13,7 @@ use Rattle.record.specs.Read.{entry_width}
 use Rattle.record.specs.declared.layout.Kind.{Kind}
 use Rattle.writing.specs.Write.{entry_of, entries, next_id, entry_kept, fields_judged}
 use Rattle.writing.specs.declared.answer.Refusal.TheVariants.{Content, Group}
-use Rattle.std.specs.Prelude.{Err, Ok}
+use Rattle.std.specs.Prelude.{Err, Ok, Option, Some}
 use Rattle.writing.specs.declared.entries.Entry.{Entry}
 
 -- the entry that stands at a place of a table
@@ -34,7 +34,7 @@ module _ (count i : ℕ) (table : List ℕ) (h : i < count) where
       rw (q, drop-drop entry_width (i * entry_width) table, k)
 
   -- and has the ID that follows
-  pub next_is : get_or table (i * entry_width) 0 ≡ next_id (entries (count - i) (drop (i * entry_width) table))
+  pub next_is : next_id (entries (count - i) (drop (i * entry_width) table)) ≡ get_or table (i * entry_width) 0
   unfolding next_id
   next_is = rw (entries_first, entry_from (i * entry_width) table)
 
@@ -46,36 +46,38 @@ entries_end count i table h =
     rw q
 
 -- and the last field follows
-pub next_last : (count i : ℕ) (table : List ℕ) → count ≤ i → last_id ≡ next_id (entries (count - i) table)
+pub next_last : (count i : ℕ) (table : List ℕ) → count ≤ i → next_id (entries (count - i) table) ≡ last_id
 unfolding next_id
 next_last count i table h = rw (entries_end count i table h)
 
 -- the entry with index i, which stands in front of those that are left
-module _ (count i : ℕ) (table : List ℕ) (h : i < count) (e : Entry) (q : e ≡ entry_of (drop (i * entry_width) table)) where
-  pub entry_here : entries (count - i) (drop (i * entry_width) table) ≡ e ∷ entries (count - (i + 1)) (drop ((i + 1) * entry_width) table)
-  entry_here = rw q (entries_first count i table h)
+pub entry_here : (count i : ℕ) (table : List ℕ) → i < count → (e : Entry) → e ≡ entry_of (drop (i * entry_width) table)
+    → entries (count - i) (drop (i * entry_width) table) ≡ e ∷ entries (count - (i + 1)) (drop ((i + 1) * entry_width) table)
+entry_here count i table h e q = rw q (entries_first count i table h)
 
-  -- judged as a field: its content cannot stand, its group is broken, or the fields after it are judged
-  module _ (k : Kind) (contents : List ℕ) (before : ℕ) where
-    pub content_refused : entry_kept k contents e ≡ false
-        → fields_judged k contents before i (entries (count - i) (drop (i * entry_width) table)) ≡ Err (Content i)
-    unfolding fields_judged
-    content_refused a = rw (entry_here, a)
+-- judged as a field: its content cannot stand, its group is broken, or the fields after it are judged
+module _ (k : Kind) (contents : List ℕ) (before : Option ℕ) (i count : ℕ) (table : List ℕ) where
+  pub content_refused : i < count → entry_kept k contents (entry_of (drop (i * entry_width) table)) ≡ false
+      → fields_judged k contents before i (entries (count - i) (drop (i * entry_width) table)) ≡ Err (Content i)
+  unfolding fields_judged
+  content_refused h a = rw (entries_first count i table h, a)
 
-    module _ (a : entry_kept k contents e ≡ true) (after : ℕ) (n : after ≡ next_id (entries (count - (i + 1)) (drop ((i + 1) * entry_width) table))) where
-      pub group_refused : group_kept before e.id after ≡ false
-          → fields_judged k contents before i (entries (count - i) (drop (i * entry_width) table)) ≡ Err (Group i)
-      unfolding fields_judged
-      group_refused g = rw (entry_here, a, ← n, g)
+  pub group_refused : i < count → entry_kept k contents (entry_of (drop (i * entry_width) table)) ≡ true
+      → group_kept before (entry_of (drop (i * entry_width) table)).id (next_id (entries (count - (i + 1)) (drop ((i + 1) * entry_width) table))) ≡ false
+      → fields_judged k contents before i (entries (count - i) (drop (i * entry_width) table)) ≡ Err (Group i)
+  unfolding fields_judged
+  group_refused h a g = rw (entries_first count i table h, a, g)
 
-      pub field_passed : group_kept before e.id after ≡ true
-          → fields_judged k contents before i (entries (count - i) (drop (i * entry_width) table))
-          ≡ fields_judged k contents e.id (i + 1) (entries (count - (i + 1)) (drop ((i + 1) * entry_width) table))
-      unfolding fields_judged
-      field_passed g = rw (entry_here, a, ← n, g)
+  pub field_passed : i < count → entry_kept k contents (entry_of (drop (i * entry_width) table)) ≡ true
+      → group_kept before (entry_of (drop (i * entry_width) table)).id (next_id (entries (count - (i + 1)) (drop ((i + 1) * entry_width) table))) ≡ true
+      → fields_judged k contents before i (entries (count - i) (drop (i * entry_width) table))
+      ≡ fields_judged k contents (Some (entry_of (drop (i * entry_width) table)).id) (i + 1) (entries (count - (i + 1)) (drop ((i + 1) * entry_width) table))
+  unfolding fields_judged
+  field_passed h a g = rw (entries_first count i table h, a, g)
 
--- with no field left nothing is refused
-pub fields_end : (k : Kind) (contents : List ℕ) (before count i : ℕ) (table : List ℕ) → count ≤ i
-    → fields_judged k contents before i (entries (count - i) table) ≡ Ok 0
-unfolding fields_judged
-fields_end k contents before count i table h = rw (entries_end count i table h)
+  -- with no field left nothing is refused
+  pub fields_end : count ≤ i → fields_judged k contents before i (entries (count - i) (drop (i * entry_width) table)) ≡ Ok 0
+  unfolding fields_judged
+  fields_end h = rw (entries_end count i (drop (i * entry_width) table) h)
+
+pub ruleset judged_on = (content_refused, group_refused, field_passed, fields_end)

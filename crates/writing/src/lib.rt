@@ -4,4 +4,6 @@
 pub mod answer;
 pub mod digits;
 pub mod entries;
+pub mod field;
 pub mod fixed;
+pub mod lent;

@@ -1,13 +1,8 @@
 -- `signs::run_of` meets its contract. The invariant: the bytes passed and the run of what is left make the run of the whole.
-use mathlib.Core.Path.{◌≡◌}
-use Prim.Native.Nat.{◌+◌, ◌-◌, ◌≤◌}
-use lib.ListN.{length, drop}
+use Rattle.std.proofs.Common.{◌≡◌, ◌+◌, drop}
 use Rattle.cells.specs.Bytes.{run}
 use Rattle.signs.specs.Class.{belongs}
 use Rattle.signs.proofs.run_of.Given as goal
 
 abbrev pub invariant-loop-i : goal.invariant-loop-i
-invariant-loop-i l = (l.i ≤ length l.s) × (run (belongs l.c) l.s ≡ l.i + run (belongs l.c) (drop l.i l.s))
-
-abbrev pub decreases-loop-i : goal.decreases-loop-i
-decreases-loop-i l = length l.s - l.i
+invariant-loop-i l = run (belongs l.c) l.s ≡ l.i + run (belongs l.c) (drop l.i l.s)
