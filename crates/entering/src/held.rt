@@ -8,7 +8,7 @@ use book::answer::{AGREED, NOT_AGREED};
 use entry::line::Line;
 use finding::lent::LentBook;
 use finding::sound::SoundBook;
-use stored::{article_is, read_line};
+use stored::line::StoredLine;
 
 #[derive(Drop)]
 pub struct Book<'a> {
@@ -26,7 +26,11 @@ impl<'a> Book<'a> {
         requires { line_width * i + line_width ≤ length self.now.lines.now }
         ensures { result ≡ line_at self.now.lines.now i }
     {
-        read_line(self.lines, i)
+        StoredLine {
+            lines: self.lines,
+            index: i,
+        }
+        .read()
     }
 
     // Whether the line with an index was ordered under an article.
@@ -35,7 +39,11 @@ impl<'a> Book<'a> {
         requires { line_width * i + line_width ≤ length self.now.lines.now }
         ensures { result ≡ agreed_at self.now.lines.now article.now i }
     {
-        if article_is(self.lines, i, article) {
+        let line = StoredLine {
+            lines: self.lines,
+            index: i,
+        };
+        if line.article_is(article) {
             return AGREED;
         }
         NOT_AGREED

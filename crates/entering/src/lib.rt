@@ -12,19 +12,19 @@ pub mod held;
 
 use crate::held::Book;
 use book::answer::{AGREED, Booked, done, with_agreed};
-use cells::part;
+use cells::{bytes_at, part};
 use entry::line::{Line, Mark};
 use entry::report::{Message, expected_date};
 use naming::kinds::{Bookable, Goods, Order, Report, slip_key};
 use naming::read::ReadRecord;
 use record::layout::Kind;
 use record::places::{
-    EXPECTED, HOLD, MESSAGE, ORDER_QUANTITY, ORDER_REFERENCE, PARTIAL, PARTIES_END, SENDER,
+    EXPECTED, HOLD, MESSAGE, ORDER_QUANTITY, ORDER_REFERENCE, PARTIES_END, SENDER,
 };
 use rules::amount::Copies;
 use rules::expected::Expected;
 use rules::number::number_of;
-use stored::{write_arrived, write_new_line, write_report, write_slip};
+use stored::write::{write_arrived, write_new_line, write_report, write_slip};
 
 // The mark that holds an order open.
 const LETTER_J: u8 = 74;
@@ -106,7 +106,7 @@ pub fn enter_report(report: &ReadRecord<Report>, book: &mut Book, i: usize) -> B
     let same_article = book.agreed(i, Report::article(report.bytes));
     let mark = mark_in(report);
     let message = message_in(report.bytes);
-    let date = part(report.bytes, EXPECTED, PARTIAL);
+    let date = bytes_at(report.bytes, EXPECTED);
     let l = book.line(i).with_report(mark, message, expected_date(date));
     write_report(book.lines, i, mark, message, date);
     with_agreed(done(l), same_article)

@@ -7,7 +7,7 @@ use crate::lent::LentBook;
 use crate::seek::{find_line, find_slip, is_sound, open_copies};
 use entry::line::Line;
 use entry::line_key::LineKey;
-use stored::read_line;
+use stored::line::StoredLine;
 
 #[derive(Clone, Copy, PartialEq, Eq, Debug)]
 pub struct SoundBook<'a> {
@@ -58,7 +58,11 @@ impl<'a> SoundBook<'a> {
         ensures read { result ≡ line_at self.entry.lent.lines.now i }
         ensures few { result.arrived.0 ≤ most_arrived }
     {
-        read_line(self.lent.lines, i)
+        StoredLine {
+            lines: self.lent.lines,
+            index: i,
+        }
+        .read()
     }
 
     // The open copies of a school on all its lines.

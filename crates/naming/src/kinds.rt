@@ -14,7 +14,7 @@ use record::places::{
     ARTICLE, MESSAGE, ORDER_ARTICLE, ORDER_MEASURE, ORDER_QUANTITY, ORDER_REFERENCE, PARTIES_END,
     PRICE, QUANTITY, RECIPIENT, REFERENCE, REPORT_ARTICLE, REPORT_REFERENCE, SENDER,
 };
-use rules::amount::{Copies, copies_of};
+use rules::amount::{Copies, amount_of};
 use signs::{Class, all_of};
 
 // What the book asks of the bytes of a record of a kind.
@@ -90,7 +90,7 @@ impl Bookable for Order {
     }
 
     fn copies(bytes: &[u8]) -> Copies {
-        copies_of(part(bytes, ORDER_QUANTITY, ORDER_MEASURE))
+        amount_of::<Copies>(part(bytes, ORDER_QUANTITY, ORDER_MEASURE))
     }
 
     fn has_no_reference(bytes: &[u8]) -> bool {
@@ -116,7 +116,7 @@ impl Bookable for Goods {
     }
 
     fn copies(bytes: &[u8]) -> Copies {
-        copies_of(part(bytes, QUANTITY, PRICE))
+        amount_of::<Copies>(part(bytes, QUANTITY, PRICE))
     }
 
     fn has_no_reference(bytes: &[u8]) -> bool {

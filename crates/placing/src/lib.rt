@@ -14,7 +14,9 @@ use finding::keyed::key_is;
 use finding::lent::LentBook;
 use finding::sound::SoundBook;
 use rules::amount::Copies;
-use stored::{LINE_WIDTH, MOST_ARRIVED, SLIP_WIDTH, slip_copies, slip_line};
+use stored::line::StoredLine;
+use stored::slip::StoredSlip;
+use stored::{LINE_WIDTH, MOST_ARRIVED, SLIP_WIDTH};
 
 // 25, 15, of an order of so many copies for a school with a ceiling.
 #[tactic(auto, unfolding(book::specs::Lent::used_lines, book::specs::Lent::line_room, book::specs::Booking::new_line_judged), using(finding::proofs::Stands::open_most))]
@@ -38,8 +40,15 @@ pub fn judge_slip(key: LineKey, copies: Copies, book: LentBook, j: usize) -> Ver
     requires { (slip_width * j + slip_width ≤ length book.slips.now) × (line_width * slip_line_at book.slips.now j + line_width ≤ length book.lines.now) }
     ensures { result ≡ slip_judged (seen book.entry) (keyed key.entry) copies j }
 {
-    let same_line = key_is(book.lines, slip_line(book.slips, j), key);
-    if same_line & (slip_copies(book.slips, j).0 == copies.0) {
+    let slip = StoredSlip {
+        slips: book.slips,
+        index: j,
+    };
+    let line = StoredLine {
+        lines: book.lines,
+        index: slip.line(),
+    };
+    if key_is(line, key) & (slip.copies() == copies) {
         return Err(Refused::SlipBooked);
     }
     Err(Refused::SlipDiffers)

@@ -2,5 +2,5 @@
 use Rattle.finding.proofs.Stands.{line_in}
 use Rattle.finding.proofs.sound.SoundBook.line.Goals as goal
 
-pub read_line-requires : goal.read_line-requires
-read_line-requires c = line_in c.args.self c.args.i c.requires
+pub invariant_of-result : goal.invariant_of-result
+invariant_of-result c = line_in c.args.self c.args.i c.requires

@@ -3,5 +3,5 @@ use native.Mathlib.Omega.{arith}
 use Rattle.rules.proofs.Parts.{part_most}
 use Rattle.naming.proofs.kinds.GoodsBookable.copies.Goals as goal
 
-pub copies_of-requires : goal.copies_of-requires
-copies_of-requires c = rw c.part.ensures (omega (arith, part_most 75 79 c.args.bytes.now))
+pub amount_of-requires : goal.amount_of-requires
+amount_of-requires c = rw c.part.ensures (omega (arith, part_most 75 79 c.args.bytes.now))
