@@ -3,4 +3,4 @@ use Rattle.own.proofs.Own.{entry_filled}
 use Rattle.own.proofs.own_entry.Goals as goal
 
 pub returns : goal.returns
-returns c = rw (c.put4.ensures, c.paste_at.ensures, c.own_account.ensures) (entry_filled _ c.requires)
+returns c = rw (c.put.ensures, c.paste_at.ensures, c.own_account.ensures) (entry_filled _ c.requires)
