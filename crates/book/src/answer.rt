@@ -4,7 +4,7 @@ ghost use Rattle.book.specs.Booking.{refused_number, refused_place, refused_as, 
 
 use entry::line::{Figures, Line};
 use entry::report::Reported;
-use record::answer::{Refusal, refusal_number, refusal_place};
+use record::answer::Refusal;
 use rules::amount::Copies;
 
 #[derive(Clone, Copy)]
@@ -66,7 +66,7 @@ pub fn refused_number(r: Refused) -> u64
 {
     match r {
         Refused::Unsound => 20,
-        Refused::Unread(why) => refusal_number(why),
+        Refused::Unread(why) => u64::from(why),
         Refused::NothingToBook => 13,
         Refused::NoCopies => 11,
         Refused::NoReference => 12,
@@ -87,7 +87,7 @@ pub fn refused_place(r: Refused) -> usize
     ensures { result ≡ refused_place r }
 {
     match r {
-        Refused::Unread(why) => refusal_place(why),
+        Refused::Unread(why) => why.place(),
         Refused::Unsound => 0,
         Refused::NothingToBook => 0,
         Refused::NoCopies => 0,

@@ -1,4 +1,5 @@
 -- Fields whose contents are kept and of allowed bytes: one by one, and those of a loop by their index in it.
+use Rattle.std.specs.Prelude.{Some, Option}
 use mathlib.Core.Path.{◌≡◌}
 use mathlib.Core.Bool.{true, not, ◌&&◌}
 use mathlib.Core.List.{List, [], ◌∷◌}
@@ -33,13 +34,13 @@ AllSound [] = Unit
 AllSound (f ∷ fs) = Sound f × AllSound fs
 
 -- the optional fields of a record are so
-pub record_sound : (k : Kind) (before : ℕ) (fs : List Optional) → optional_kept k before fs ≡ true → contents_allowed fs ≡ true → AllSound fs
+pub record_sound : (k : Kind) (before : Option ℕ) (fs : List Optional) → optional_kept k before fs ≡ true → contents_allowed fs ≡ true → AllSound fs
 unfolding contents_allowed content_kept
 record_sound k before [] e a = tt
 record_sound k before (f ∷ fs) e a =
     let one = first_kept k before f fs e in (
       record { rule = and_right (not (guarded k f.id && any barred f.content)) (keeps (content_rule f.id) [] f.content) one.content; allowed = and_left (all (belongs Allowed) f.content) (contents_allowed fs) a },
-      record_sound k f.id fs one.others (and_right (all (belongs Allowed) f.content) (contents_allowed fs) a),
+      record_sound k (Some f.id) fs one.others (and_right (all (belongs Allowed) f.content) (contents_allowed fs) a),
     )
 
 -- and so are the first of them, and the others

@@ -13,7 +13,6 @@ use Rattle.cells.proofs.Bools.{split, and_right}
 use Rattle.cells.proofs.Lists.{all_append}
 use Rattle.signs.specs.Class.{belongs}
 use Rattle.signs.specs.declared.Class.TheVariants.{Allowed}
-use Rattle.record.specs.Contents.{no_member}
 use Rattle.record.specs.Fields.{Optional}
 use Rattle.record.specs.Read.{entry_width, optional_fields}
 use Rattle.record.specs.declared.layout.Kind.{Kind}
@@ -29,7 +28,7 @@ use Rattle.parts.specs.Fields.{lent_fields}
 use Rattle.parts.specs.Entries.{others_among}
 use Rattle.parts.specs.Read.{parts_judged, Outcome as Read, room_after, parts_read}
 use Rattle.parts.specs.Write.{entries_there, has_loop, is_misplaced}
-use Rattle.std.specs.Prelude.{Ok}
+use Rattle.std.specs.Prelude.{Ok, None}
 use Rattle.parts.proofs.Members.{others_named}
 use Rattle.parts.proofs.Lent.{lent_long}
 use Rattle.bundles.specs.Demand2.{parts_call, write_parts_call, LargeRoom, Bundled, CanWriteParts, PartsReadBack}
@@ -46,7 +45,7 @@ pub whole_sound : (k : Kind) (fixed : List ℕ) (fs : List Optional) → Whole k
 unfolding record_text
 whole_sound k fixed fs w =
     let a = rw (all_append (belongs Allowed) fixed (optional_text fs), text_allowed fs) at w.allowed in
-    record_sound k no_member fs w.kept (and_right (all (belongs Allowed) fixed) (contents_allowed fs) a)
+    record_sound k None fs w.kept (and_right (all (belongs Allowed) fixed) (contents_allowed fs) a)
 
 -- neither of two tests holds where not one of them does
 neither : (a b : Bool) → (a || b) ≡ false → (a ≡ false) × (b ≡ false)

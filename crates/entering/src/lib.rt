@@ -18,7 +18,7 @@ use record::places::{
     ARTICLE, EXPECTED, HOLD, MESSAGE, ORDER_MEASURE, ORDER_QUANTITY, ORDER_REFERENCE, PARTIAL,
     PARTIES_END, PRICE, QUANTITY, REPORT_ARTICLE, SENDER,
 };
-use rules::amount::{Copies, copies_of};
+use rules::amount::{Copies, amount_of};
 use rules::expected::Expected;
 use rules::number::number_of;
 use stored::{article_is, read_line, write_arrived, write_new_line, write_report, write_slip};
@@ -79,7 +79,7 @@ pub fn enter_order(
     requires { (fixed_width Kind.Order ≤ length s.now) × (line_width * i + line_width ≤ length lines.old) × (get_or used.old 0 0 < most_lines) }
     ensures { outcome result (lent lines.new slips.now used.new) ≡ entered_as Kind.Order s.now (lent lines.old slips.now used.old) i }
 {
-    let copies = copies_of(part(s, ORDER_QUANTITY, ORDER_MEASURE));
+    let copies = amount_of::<Copies>(part(s, ORDER_QUANTITY, ORDER_MEASURE));
     write_new_line(
         lines,
         i,
@@ -102,7 +102,7 @@ pub fn enter_goods(
     requires { (fixed_width Kind.Goods ≤ length s.now) × (line_width * i + line_width ≤ length lines.old) × (slip_width * get_or used.old 1 0 + slip_width ≤ length slips.old) × (get_or used.old 1 0 < most_slips) × ((line_at lines.old i).arrived.0 + (copies_in Kind.Goods s.now).0 ≤ most_arrived) }
     ensures { outcome result (lent lines.new slips.new used.new) ≡ entered_as Kind.Goods s.now (lent lines.old slips.old used.old) i }
 {
-    let copies = copies_of(part(s, QUANTITY, PRICE));
+    let copies = amount_of::<Copies>(part(s, QUANTITY, PRICE));
     let same_article = agreed(lines, i, part(s, ARTICLE, QUANTITY));
     let l = read_line(lines, i).with_arrivals(copies);
     let arrived = l.arrived;

@@ -16,7 +16,7 @@ use record::places::{
     PRICE, QUANTITY, RECIPIENT, REFERENCE, REPORT_ARTICLE, REPORT_REFERENCE, SENDER, SLIP,
 };
 use roster::standing_on;
-use rules::amount::{Copies, copies_of};
+use rules::amount::{Copies, amount_of};
 use signs::{Class, all_of};
 
 // 14, then 25 and 15.
@@ -56,7 +56,7 @@ pub fn judge_order(
     requires { (sound (lent lines.now slips.now used.now) ≡ true) × (fixed_width Kind.Order ≤ length s.now) × ((copies_in Kind.Order s.now).0 ≤ most_copies) }
     ensures { result ≡ fit_judged Kind.Order s.now roster.now (lent lines.now slips.now used.now) }
 {
-    let copies = copies_of(part(s, ORDER_QUANTITY, ORDER_MEASURE));
+    let copies = amount_of::<Copies>(part(s, ORDER_QUANTITY, ORDER_MEASURE));
     if copies.0 == 0 {
         return Err(Refused::NoCopies);
     }
@@ -104,7 +104,7 @@ pub fn judge_goods(
     if all_of(Class::Blank, part(s, SLIP, POSITION)) {
         return Err(Refused::NothingToBook);
     }
-    let copies = copies_of(part(s, QUANTITY, PRICE));
+    let copies = amount_of::<Copies>(part(s, QUANTITY, PRICE));
     if copies.0 == 0 {
         return Err(Refused::NoCopies);
     }

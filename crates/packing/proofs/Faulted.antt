@@ -19,7 +19,7 @@ use Rattle.writing.specs.Widths.{all_inside}
 use Rattle.writing.specs.Write.{◌next◌, content_in, optional_in, optional_of, inside, writable, next_id, entry_kept, fields_judged}
 use Rattle.writing.specs.declared.answer.Refusal.TheVariants.{Content}
 use Rattle.writing.specs.Verdicts.{Verdict}
-use Rattle.std.specs.Prelude.{Err, Ok}
+use Rattle.std.specs.Prelude.{Err, Ok, Some, Option}
 use Rattle.writing.specs.declared.entries.Entry.{Entry}
 use Rattle.parts.specs.Loops.{loop}
 use Rattle.parts.specs.Part.{part_width}
@@ -32,16 +32,16 @@ next_of [] = last_id
 next_of (f ∷ fs) = f.id
 
 -- IDs below the last one whose contents no kind guards, in whole groups; before is the ID of the field before them
-unfoldable pub ordered : ℕ → List Optional → Bool
+unfoldable pub ordered : Option ℕ → List Optional → Bool
 ordered before [] = true
 ordered before (f ∷ fs) =
-    (ltb f.id last_id && not (is_in f.id guarded_ids)) && (group_kept before f.id (next_of fs) && ordered f.id fs)
+    (ltb f.id last_id && not (is_in f.id guarded_ids)) && (group_kept before f.id (next_of fs) && ordered (Some f.id) fs)
 
 -- the fields of n lent parts are that, whatever stands before them
-pub lent_ordered : (n : ℕ) (s : List ℕ) (at before : ℕ) → ordered before (lent_fields n s at) ≡ true
+pub lent_ordered : (n : ℕ) (s : List ℕ) (at : ℕ) (before : Option ℕ) → ordered before (lent_fields n s at) ≡ true
 unfolding ordered next_of lent_fields lent_loop part_fields part_texts with_ids loop is_in guarded_ids group_kept is_wanted next_member previous_member first_of next_in previous_in group_with groups
 lent_ordered zero s at before = refl
-lent_ordered (suc n) s at before = lent_ordered n s (at + part_width) 1151
+lent_ordered (suc n) s at before = lent_ordered n s (at + part_width) (Some 1151)
 
 -- what is said of fields by their first fault, where the first of them has index i
 unfoldable pub faulted : ℕ → List Optional → Verdict
@@ -85,7 +85,7 @@ next_alike contents [] = refl
 next_alike contents (e ∷ es) = refl
 
 -- entries inside the contents that name such fields are judged by the first fault
-pub judged_faulted : (k : Kind) (contents : List ℕ) (before i : ℕ) (es : List Entry) → all_inside contents es ≡ true
+pub judged_faulted : (k : Kind) (contents : List ℕ) (before : Option ℕ) (i : ℕ) (es : List Entry) → all_inside contents es ≡ true
     → ordered before (optional_of contents es) ≡ true → fields_judged k contents before i es ≡ faulted i (optional_of contents es)
 unfolding fields_judged all_inside ordered optional_of optional_in
 judged_faulted k contents before i [] h o = none_faulty i
@@ -97,7 +97,7 @@ judged_faulted k contents before i (e ∷ es) h o =
     let a = and_left (ltb e.id last_id) _ p in
     let b = not-true _ (and_right (ltb e.id last_id) _ p) in
     let g = and_left (group_kept before e.id (next_of fs)) _ q in
-    let ih = judged_faulted k contents e.id (i + 1) es (and_right (inside contents e) _ h) (and_right (group_kept before e.id (next_of fs)) _ q) in
+    let ih = judged_faulted k contents (Some e.id) (i + 1) es (and_right (inside contents e) _ h) (and_right (group_kept before e.id (next_of fs)) _ q) in
     rw (kept_alike k contents e a b (and_left (inside contents e) _ h), next_alike contents es, g, ih)
     (split (is_kept e.id (content_in contents e)) (λ t. rw t (kept_on i f fs t)) (λ t. rw t (faulty_here i f fs t)))
 

@@ -8,7 +8,6 @@ use borrow.Author.Tests.{lt-ltb, le-ltb}
 use lib.ListN.{length}
 use lib.Seq.{sets}
 use Rattle.record.specs.Layout.{most_bytes, most_fields, fixed_width}
-use Rattle.record.specs.Contents.{no_member}
 use Rattle.record.specs.Fields.{Optional}
 use Rattle.record.specs.Read.{entry_width}
 use Rattle.record.specs.declared.layout.Kind.{Kind}
@@ -18,7 +17,7 @@ use Rattle.writing.specs.Write.{◌next◌, entries, optional_of, fields_judged,
 use Rattle.writing.specs.declared.answer.Refusal.{Refusal}
 use Rattle.writing.specs.declared.answer.Refusal.TheVariants.{TooManyFields, SmallTable, Content}
 use Rattle.writing.specs.Verdicts.{Verdict}
-use Rattle.std.specs.Prelude.{Err, Ok}
+use Rattle.std.specs.Prelude.{Err, Ok, None}
 use Rattle.writing.proofs.Stages.{many_refused, table_refused, fields_refused, fields_fit, write_refused, write_fits}
 use Rattle.writing.proofs.Fitting.{fitting, fields_inside, fits_inside, fits_stored}
 use Rattle.parts.specs.Loops.{loop_fields, are_loops}
@@ -54,17 +53,17 @@ module _ (k : Kind) (fixed table : List ℕ) (count : ℕ) (contents room : List
       whole = table_long (lent_fields n room 0) table count h
 
       -- what is said of all fields, by what is said of the table's
-      said : (u : Verdict) → fields_judged k contents no_member 0 (entries count table) ≡ u
+      said : (u : Verdict) → fields_judged k contents None 0 (entries count table) ≡ u
           → let more = lent_fields n room 0 in
-          fields_judged k (contents_with more contents) no_member 0 (entries (count + length more) (table_with more table count)) ≡ (u next faulted count more)
+          fields_judged k (contents_with more contents) None 0 (entries (count + length more) (table_with more table count)) ≡ (u next faulted count more)
       said u a = judged_together k table contents count room n h loops ∙ rw a
 
-      pub first_refused : (r : Refusal) → fields_judged k contents no_member 0 (entries count table) ≡ Err r
+      pub first_refused : (r : Refusal) → fields_judged k contents None 0 (entries count table) ≡ Err r
           → rest_with (lent_fields n room 0) k fixed table count contents out ≡ Err r
       unfolding rest_with ◌next◌
       first_refused r a = fields_refused k fixed _ _ _ out sum whole r (said (Err r) a)
 
-      module _ (m : ℕ) (a : fields_judged k contents no_member 0 (entries count table) ≡ Ok m) where
+      module _ (m : ℕ) (a : fields_judged k contents None 0 (entries count table) ≡ Ok m) where
         pub second_refused : first_fault (lent_fields n room 0) < n * loop_fields
             → rest_with (lent_fields n room 0) k fixed table count contents out ≡ Err (Content (count + first_fault (lent_fields n room 0)))
         unfolding rest_with ◌next◌ faulted
@@ -84,7 +83,7 @@ module _ (k : Kind) (fixed table : List ℕ) (count : ℕ) (contents room : List
             fields_fit k fixed _ _ _ out sum whole 0 (said (Ok m) a ∙ rw (le-ltb (first_fault more) (length more) (rw (lent_long n room 0) b)))
             ∙ ap (λ (w : ℕ). length_judged w out)
             (ap (λ (fs : List Optional). length (record_text fixed fs)) (named_together table contents count more h)
-            ∙ joined_wide fixed contents es more (fields_inside k contents no_member 0 es m a))
+            ∙ joined_wide fixed contents es more (fields_inside k contents None 0 es m a))
 
 -- all that is known of a record with parts that is written, of m bytes
 pub record Placed (fixed table : List ℕ) (count : ℕ) (contents room : List ℕ) (n : ℕ) (out : List ℕ) (m : ℕ) : Type 0 where
@@ -120,7 +119,7 @@ module _ (fixed table : List ℕ) (count : ℕ) (contents room : List ℕ) (n : 
           few = omega (arith, f.1.few);
           tabled = t;
           inside = i;
-          faultless = fits_faultless (fields_judged f.0 contents no_member 0 (entries count table)) count more f.1.kept.0 j ∙ lent_long n room 0;
+          faultless = fits_faultless (fields_judged f.0 contents None 0 (entries count table)) count more f.1.kept.0 j ∙ lent_long n room 0;
           wide = sym w ∙ ap (λ (fs : List Optional). length (record_text fixed fs)) (sym (named_together table contents count more t)) ∙ f.1.long;
           short = f.1.short;
           there = f.1.room;

@@ -1,4 +1,5 @@
 -- Entries that name the same fields in two lent contents, inside them or not alike: they are judged alike.
+use Rattle.std.specs.Prelude.{Some, Option}
 use mathlib.Core.Path.{◌≡◌, refl, ◌∙◌, ap, sym, subst}
 use mathlib.Core.Bool.{true}
 use mathlib.Core.List.{List, [], ◌∷◌, ◌++◌, map, append_assoc}
@@ -50,12 +51,12 @@ module _ {x y : List ℕ} where
   same_next (one o i a) = ap (λ (f : Optional). f.id) o
 
   -- so they are judged alike
-  pub alike_judged : (k : Kind) {es fs : List Entry} → Alike x y es fs → (before i : ℕ) → fields_judged k x before i es ≡ fields_judged k y before i fs
+  pub alike_judged : (k : Kind) {es fs : List Entry} → Alike x y es fs → (before : Option ℕ) (i : ℕ) → fields_judged k x before i es ≡ fields_judged k y before i fs
   unfolding fields_judged optional_in
   alike_judged k none before i = refl
   alike_judged k (one {e = e} {f = f} {es = es} {fs = fs} o t a) before i =
       let d : e.id ≡ f.id = ap (λ (g : Optional). g.id) o in
-      let ih = alike_judged k a f.id (i + 1) in
+      let ih = alike_judged k a (Some f.id) (i + 1) in
       rw (same_kept k x y e f o t, d, same_next a, ih)
 
   -- inside the lent bytes it is enough that they name the same fields

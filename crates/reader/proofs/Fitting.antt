@@ -15,7 +15,6 @@ use Rattle.signs.specs.Class.{belongs, of_class}
 use Rattle.rules.specs.Day.{day_width}
 use Rattle.signs.specs.declared.Class.TheVariants.{Allowed, Zero}
 use Rattle.record.specs.Layout.{most_bytes, most_fields, date_start, layout, total, fixed_width, kind_of, first_broken}
-use Rattle.record.specs.Contents.{no_member}
 use Rattle.record.specs.Answers.{◌then◌}
 use Rattle.record.specs.Fields.{head_width, walk, judge}
 use Rattle.record.specs.Read.{bytes_judged, fixed_judged, after_walk, optional_judged, kind_judged, judged, judged_as, optional_start}
@@ -63,14 +62,14 @@ passed false v r n e = let z : ◌≡◌ {A = ℕ} 0 1 = cc in absurd (omega ari
 
 -- what the two walks say of optional fields that fit
 optional_walk : (k : Kind) (p : ℕ) (t : List ℕ) (v : Verdict) (n : ℕ) → after_walk k p t v ≡ Ok n
-    → (v ≡ Ok n) × ((m : ℕ) × (judge k n no_member p t ≡ Ok m))
+    → (v ≡ Ok n) × ((m : ℕ) × (judge k n None p t ≡ Ok m))
 unfolding after_walk
 optional_walk k p t (Err r) n e = let z : ◌≡◌ {A = ℕ} 0 1 = cc in absurd (omega arith)
 optional_walk k p t (Ok c) n e =
-    let q : Ok c ≡ Ok n = then_second (judge k c no_member p t) (Ok c) n e in
+    let q : Ok c ≡ Ok n = then_second (judge k c None p t) (Ok c) n e in
     let d : c ≡ n = cc in
-    let j = then_first (judge k c no_member p t) (Ok c) n e in
-    (q, (j.0, ap (λ (m : ℕ). judge k m no_member p t) (sym d) ∙ j.1))
+    let j = then_first (judge k c None p t) (Ok c) n e in
+    (q, (j.0, ap (λ (m : ℕ). judge k m None p t) (sym d) ∙ j.1))
 
 -- all that is known of a record of a kind that fits with n optional fields
 pub record Fitting (k : Kind) (s : List ℕ) (n : ℕ) : Type 0 where
@@ -78,7 +77,7 @@ pub record Fitting (k : Kind) (s : List ℕ) (n : ℕ) : Type 0 where
   pub allowed : run (belongs Allowed) s ≡ length s
   pub kept : first_broken (layout k) s ≡ length (layout k)
   pub walked : walk most_fields 0 (fixed_width k) (drop (fixed_width k) s) ≡ Ok n
-  pub whole : (m : ℕ) × (judge k n no_member (fixed_width k) (drop (fixed_width k) s) ≡ Ok m)
+  pub whole : (m : ℕ) × (judge k n None (fixed_width k) (drop (fixed_width k) s) ≡ Ok m)
 
 pub fitting : (k : Kind) (s : List ℕ) (n : ℕ) → kind_of s ≡ Some k → judged s ≡ Ok n → Fitting k s n
 unfolding kind_judged bytes_judged fixed_judged optional_judged

@@ -10,13 +10,12 @@ use Rattle.cells.specs.Bytes.{run, same}
 use Rattle.signs.specs.Class.{belongs}
 use Rattle.signs.specs.declared.Class.TheVariants.{Allowed}
 use Rattle.record.specs.Layout.{most_bytes, most_fields, layout, fixed_width, start_of, kind_of, first_broken}
-use Rattle.record.specs.Contents.{no_member}
 use Rattle.record.specs.Answers.{checked_of, ◌then◌}
 use Rattle.record.specs.Fields.{head_width, walk, judge, entries_of}
 use Rattle.record.specs.Read.{bytes_judged, fixed_judged, after_walk, optional_judged, kind_judged, judged, entry_width, outcome, optional_start, table_after, check, judged_as}
 use Rattle.record.specs.declared.answer.Refusal.{Refusal}
 use Rattle.record.specs.declared.answer.Refusal.TheVariants.{TooLong, UnknownKind, TooShort, Byte, FixedField, SmallTable}
-use Rattle.std.specs.Prelude.{Err, Ok, Some}
+use Rattle.std.specs.Prelude.{Err, Ok, Some, None}
 use Rattle.record.specs.declared.layout.Kind.{Kind}
 
 -- 6 to 10, from what the two walks say
@@ -26,7 +25,7 @@ module _ (k : Kind) (p : ℕ) (t : List ℕ) where
   walk_refused r e = rw e
 
   module _ (n : ℕ) (e : walk most_fields 0 p t ≡ Ok n) where
-    pub judge_refused : (r : Refusal) → judge k n no_member p t ≡ Err r → optional_judged k p t ≡ Err r
+    pub judge_refused : (r : Refusal) → judge k n None p t ≡ Err r → optional_judged k p t ≡ Err r
     unfolding optional_judged after_walk ◌then◌
     judge_refused r g = rw (e, g)
 
@@ -35,7 +34,7 @@ module _ (k : Kind) (p : ℕ) (t : List ℕ) where
     unfolding optional_judged after_walk judge ◌then◌
     none_fits z = rw (e, z)
 
-    pub judge_fits : (m : ℕ) → judge k n no_member p t ≡ Ok m → optional_judged k p t ≡ Ok n
+    pub judge_fits : (m : ℕ) → judge k n None p t ≡ Ok m → optional_judged k p t ≡ Ok n
     unfolding optional_judged after_walk ◌then◌
     judge_fits m g = rw (e, g)
 

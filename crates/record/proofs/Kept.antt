@@ -1,5 +1,5 @@
 -- The fields of a list in which none is broken: each keeps its rule and has its length.
-use mathlib.Core.Path.{◌≡◌, ◌∙◌, refl}
+use mathlib.Core.Path.{◌≡◌, ◌∙◌, refl, sym}
 use mathlib.Core.Bool.{true}
 use mathlib.Core.List.{List, [], ◌∷◌}
 use Prim.Native.Nat.{ℕ, zero, suc, ◌+◌, ◌≤◌, ◌<◌}
@@ -15,7 +15,7 @@ use Rattle.record.specs.Layout.{no_field, layout, total, fixed_width, start_of, 
 use Rattle.record.specs.Values.{field_bytes}
 use Rattle.record.specs.declared.layout.Field.{Field}
 use Rattle.record.specs.declared.layout.Kind.{Kind}
-use Rattle.record.proofs.Layouts.{start_most, start_next}
+use Rattle.record.proofs.Layouts.{start_most, start_at}
 
 -- where no field is broken, the first keeps its rule, and none is broken after it
 module _ (f : Field) (fs : List Field) (s : List ℕ) (e : first_broken (f ∷ fs) s ≡ suc (length fs)) where
@@ -41,8 +41,8 @@ each_kept (f ∷ fs) s (suc i) e =
 -- each field has its length, where the list is long enough
 pub field_length : (k : Kind) (s : List ℕ) → fixed_width k ≤ length s → (i : ℕ) → i < length (layout k)
     → length (field_bytes k i s) ≡ (get_or (layout k) i no_field).size
-unfolding field_bytes fixed_width
+unfolding field_bytes fixed_width start_of
 field_length k s h i l =
     let m = start_most (layout k) (suc i) in
-    let t : start_of (layout k) (suc i) ≡ start_of (layout k) i + (get_or (layout k) i no_field).size = rw (← add-one i) (start_next (layout k) i l _ refl) in
+    let t : start_of (layout k) (suc i) ≡ start_of (layout k) i + (get_or (layout k) i no_field).size = rw (← add-one i) (sym (start_at (layout k) i l)) in
     length-slice (start_of (layout k) i) (start_of (layout k) (suc i)) s (omega arith) ∙ omega arith

@@ -1,5 +1,5 @@
 -- The contents and the groups of optional fields, as data (RULES 2.3, 2.4).
-use Rattle.std.specs.Prelude.{ℕ, Bool, false, not, ◌&&◌, ◌||◌, List, [], ◌∷◌, eqb}
+use Rattle.std.specs.Prelude.{ℕ, Bool, true, false, not, ◌&&◌, ◌||◌, List, [], ◌∷◌, eqb, None, Option, Some}
 use Rattle.cells.specs.Bytes.{pick, any}
 use Rattle.signs.specs.Class.{barred}
 use Rattle.rules.specs.Rule.{keeps}
@@ -87,40 +87,38 @@ groups =
     ∷ (1203 ∷ 1204 ∷ [])
     ∷ []
 
--- stands for "no member": 0 is in no group
-abbrev pub no_member : ℕ
-no_member = 0
+-- the member that stands first, where there is one
+unfoldable pub first_of : List ℕ → Option ℕ
+first_of [] = None
+first_of (m ∷ ms) = Some m
 
--- the member that stands first
-unfoldable pub first_of : List ℕ → ℕ
-first_of [] = no_member
-first_of (m ∷ ms) = m
-
--- the member after an ID in its group
-unfoldable pub next_in : ℕ → List ℕ → ℕ
-next_in id [] = no_member
+-- the member after an ID in its group, where there is one
+unfoldable pub next_in : ℕ → List ℕ → Option ℕ
+next_in id [] = None
 next_in id (m ∷ ms) = pick (eqb id m) (first_of ms) (next_in id ms)
 
--- the member before an ID in its group, where earlier stands before the first
-unfoldable pub previous_in : ℕ → ℕ → List ℕ → ℕ
-previous_in earlier id [] = no_member
-previous_in earlier id (m ∷ ms) = pick (eqb id m) earlier (previous_in m id ms)
+-- the member before an ID in its group, where earlier is what stands before the first
+unfoldable pub previous_in : Option ℕ → ℕ → List ℕ → Option ℕ
+previous_in earlier id [] = None
+previous_in earlier id (m ∷ ms) = pick (eqb id m) earlier (previous_in (Some m) id ms)
 
 -- the group that an ID is in, or none
 unfoldable pub group_with : ℕ → List (List ℕ) → List ℕ
 group_with id [] = []
 group_with id (g ∷ gs) = pick (is_in id g) g (group_with id gs)
 
-unfoldable pub next_member : ℕ → ℕ
+unfoldable pub next_member : ℕ → Option ℕ
 next_member id = next_in id (group_with id groups)
 
-unfoldable pub previous_member : ℕ → ℕ
-previous_member id = previous_in no_member id (group_with id groups)
+unfoldable pub previous_member : ℕ → Option ℕ
+previous_member id = previous_in None id (group_with id groups)
 
 -- a neighbour is the member wanted, where one is
-unfoldable pub is_wanted : ℕ → ℕ → Bool
-is_wanted member neighbour = eqb member no_member || eqb member neighbour
+unfoldable pub is_wanted : Option ℕ → Option ℕ → Bool
+is_wanted None neighbour = true
+is_wanted (Some member) None = false
+is_wanted (Some member) (Some id) = eqb member id
 
--- the members that belong beside an ID in its group stand beside it (RULES 2.4)
-unfoldable pub group_kept : ℕ → ℕ → ℕ → Bool
-group_kept before id after = is_wanted (next_member id) after && is_wanted (previous_member id) before
+-- the members that belong beside an ID in its group stand beside it: before is the field before it, where there is one (RULES 2.4)
+unfoldable pub group_kept : Option ℕ → ℕ → ℕ → Bool
+group_kept before id after = is_wanted (next_member id) (Some after) && is_wanted (previous_member id) before

@@ -60,13 +60,13 @@ unfoldable pub walk : ℕ → ℕ → ℕ → List ℕ → Verdict
 walk zero n p t = at_field n p t (Err (TooManyFields p))
 walk (suc room) n p t = at_field n p t (walk room (n + 1) (p + field_width t) (after_field t))
 
--- the second walk: 9 and then 10 at each of n fields; before is the ID of the field before the first
-unfoldable pub judge : Kind → ℕ → ℕ → ℕ → List ℕ → Verdict
+-- the second walk: 9 and then 10 at each of n fields; before is the ID of the field before the first, where there is one
+unfoldable pub judge : Kind → ℕ → Option ℕ → ℕ → List ℕ → Verdict
 judge k zero before p t = Ok 0
 judge k (suc n) before p t =
     pick (content_kept k (id_of t) (content_of t))
     (pick (group_kept before (id_of t) (id_of (after_field t)))
-    (judge k n (id_of t) (p + field_width t) (after_field t))
+    (judge k n (Some (id_of t)) (p + field_width t) (after_field t))
     (Err (Group p)))
     (Err (Content p))
 

@@ -5,7 +5,6 @@ use Rattle.cells.specs.Bytes.{pick, bytes, run, same}
 use Rattle.signs.specs.Class.{belongs}
 use Rattle.signs.specs.declared.Class.TheVariants.{Allowed}
 use Rattle.record.specs.Layout.{most_bytes, most_fields, kind_width, layout, fixed_width, start_of, kind_of, first_broken}
-use Rattle.record.specs.Contents.{no_member}
 use Rattle.record.specs.Answers.{checked_of, ◌then◌}
 use Rattle.record.specs.Fields.{head_width, walk, judge, entries_of, Optional, fields_of}
 use Rattle.record.specs.Values.{order_of, delivery_of, report_of, no_order, no_delivery, no_report}
@@ -30,7 +29,7 @@ fixed_judged k s =
 -- 6 to 8, then 9 and 10 at each of the fields walked
 unfoldable pub after_walk : Kind → ℕ → List ℕ → Verdict → Verdict
 after_walk k p t (Err r) = Err r
-after_walk k p t (Ok n) = judge k n no_member p t then Ok n
+after_walk k p t (Ok n) = judge k n None p t then Ok n
 
 unfoldable pub optional_judged : Kind → ℕ → List ℕ → Verdict
 optional_judged k p t = after_walk k p t (walk most_fields 0 p t)

@@ -8,10 +8,8 @@ use crate::layout::Kind;
 use rules::rule::{Rule, Texts, is_day, is_day_count, is_one_of};
 use signs::{Class, belongs_to, of_class};
 
-// Stands for "no member": 0 is in no group.
-pub const NO_MEMBER: usize = 0;
-
 // The rule of an ID's content; an ID not listed is kept with any content.
+#[tactic(auto, unfolding(crate::specs::Contents::content_rule, crate::specs::Contents::contents, crate::specs::Contents::rule_in, crate::specs::Contents::is_in))]
 pub fn content_rule(id: usize) -> Rule
     ensures { result ≡ content_rule id }
 {
@@ -47,6 +45,7 @@ pub fn content_rule(id: usize) -> Rule
 }
 
 // Whether a content keeps the rule of its ID; no content has one of the other rules.
+#[tactic(auto, unfolding(rules::specs::Rule::keeps))]
 pub fn rule_kept(id: usize, content: &[u8]) -> bool
     ensures { result ≡ keeps (content_rule id) [] content.now }
 {
@@ -60,6 +59,7 @@ pub fn rule_kept(id: usize, content: &[u8]) -> bool
 }
 
 // Whether the bytes * + : ? ' may not stand in a field.
+#[tactic(auto, unfolding(crate::specs::Contents::guarded, crate::specs::Contents::guarded_ids, crate::specs::Contents::is_in))]
 pub fn is_guarded(k: Kind, id: usize) -> bool
     ensures { result ≡ guarded k id }
 {
@@ -72,58 +72,66 @@ pub fn is_guarded(k: Kind, id: usize) -> bool
 }
 
 // Whether a byte is one that a guarded field may not hold.
+#[tactic(auto, using(crate::proofs::Barred::not_unbarred))]
 pub fn is_barred(guard: bool, b: u8) -> bool
     ensures { result ≡ (guard && barred b) }
 {
     guard & !belongs_to(Class::Unbarred, b)
 }
 
-// The member of its group that has to follow an ID.
-pub fn next_member(id: usize) -> usize
+// The member of its group that has to follow an ID, where one has to.
+#[tactic(auto, unfolding(crate::specs::Contents::next_member, crate::specs::Contents::next_in, crate::specs::Contents::first_of, crate::specs::Contents::group_with, crate::specs::Contents::groups, crate::specs::Contents::is_in))]
+pub fn next_member(id: usize) -> Option<usize>
     ensures { result ≡ next_member id }
 {
     match id {
-        1017 => 1018,
-        1029 => 1030,
-        1030 => 1032,
-        1101 => 1102,
-        1107 => 1108,
-        1113 => 1114,
-        1115 => 1116,
-        1201 => 1202,
-        1203 => 1204,
-        _ => NO_MEMBER,
+        1017 => Some(1018),
+        1029 => Some(1030),
+        1030 => Some(1032),
+        1101 => Some(1102),
+        1107 => Some(1108),
+        1113 => Some(1114),
+        1115 => Some(1116),
+        1201 => Some(1202),
+        1203 => Some(1204),
+        _ => None,
     }
 }
 
-// The member of its group that has to stand before an ID.
-pub fn previous_member(id: usize) -> usize
+// The member of its group that has to stand before an ID, where one has to.
+#[tactic(auto, unfolding(crate::specs::Contents::previous_member, crate::specs::Contents::previous_in, crate::specs::Contents::group_with, crate::specs::Contents::groups, crate::specs::Contents::is_in))]
+pub fn previous_member(id: usize) -> Option<usize>
     ensures { result ≡ previous_member id }
 {
     match id {
-        1018 => 1017,
-        1030 => 1029,
-        1032 => 1030,
-        1102 => 1101,
-        1108 => 1107,
-        1114 => 1113,
-        1116 => 1115,
-        1202 => 1201,
-        1204 => 1203,
-        _ => NO_MEMBER,
+        1018 => Some(1017),
+        1030 => Some(1029),
+        1032 => Some(1030),
+        1102 => Some(1101),
+        1108 => Some(1107),
+        1114 => Some(1113),
+        1116 => Some(1115),
+        1202 => Some(1201),
+        1204 => Some(1203),
+        _ => None,
     }
 }
 
 // Whether a neighbour is the member wanted, where one is.
-fn is_wanted(member: usize, neighbour: usize) -> bool
+#[tactic(auto, unfolding(crate::specs::Contents::is_wanted))]
+fn is_wanted(member: Option<usize>, neighbour: Option<usize>) -> bool
     ensures { result ≡ is_wanted member neighbour }
 {
-    (member == NO_MEMBER) | (member == neighbour)
+    match member {
+        Some(_) => neighbour == member,
+        None => true,
+    }
 }
 
-// Whether a field stands unbroken in its group, between the fields before and after it.
-pub fn group_kept(before: usize, id: usize, after: usize) -> bool
+// Whether a field stands unbroken in its group, between the field before it, where there is one, and the field after it.
+#[tactic(auto, unfolding(crate::specs::Contents::group_kept))]
+pub fn group_kept(before: Option<usize>, id: usize, after: usize) -> bool
     ensures { result ≡ group_kept before id after }
 {
-    is_wanted(next_member(id), after) & is_wanted(previous_member(id), before)
+    is_wanted(next_member(id), Some(after)) & is_wanted(previous_member(id), before)
 }

@@ -1,8 +1,6 @@
 // The kinds of records, and the fixed part of each as data.
-ghost use Rattle.std.specs.Prelude.{◌≡◌, ◌+◌, length, get_or, drop};
-ghost use Rattle.record.specs.Layout.{◌∶◌, no_field, head, layout, fixed_width, start_of, kind_of, first_broken};
-ghost use Rattle.rules.specs.declared.rule.Rule.TheVariants.{Of};
-ghost use Rattle.record.specs.declared.layout.Kind.TheVariants.{Order, Goods, Closing, Report};
+ghost use Rattle.std.specs.Prelude.{◌≡◌, ◌+◌, drop};
+ghost use Rattle.record.specs.Layout.{head, layout, fixed_width, start_of, kind_of, first_broken};
 
 use crate::places::{
     DATE_START, PARTIES_END, RECIPIENT, RECIPIENT_QUALIFIER, SENDER, SENDER_QUALIFIER,
@@ -35,24 +33,19 @@ pub const REPORT_FIELDS: usize = 13;
 const HEAD_FIELDS: usize = 5;
 
 // A fixed field: its length and its rule.
-#[derive(Clone, Copy)]
+#[derive(Clone, Copy, PartialEq, Eq, Debug)]
 pub struct Field {
     pub size: usize,
     pub rule: Rule,
 }
 
-#[derive(Clone, Copy)]
+#[derive(Clone, Copy, PartialEq, Eq, Debug)]
 pub enum Kind {
     Order,
     Goods,
     Closing,
     Report,
 }
-
-const NO_FIELD: Field = Field {
-    size: 0,
-    rule: Rule::Free,
-};
 
 const KIND: Field = Field {
     size: 4,
@@ -89,6 +82,11 @@ const SLIP_NUMBER: Field = Field {
     rule: Rule::Named(Class::Any),
 };
 
+const POSITION: Field = Field {
+    size: 4,
+    rule: Rule::Of(Class::Digit, 4, 4),
+};
+
 const ARTICLE: Field = Field {
     size: 13,
     rule: Rule::Article,
@@ -99,14 +97,44 @@ const ARTICLE_QUALIFIER: Field = Field {
     rule: Rule::OneOf(Texts::Numbering),
 };
 
+const QUANTITY: Field = Field {
+    size: 4,
+    rule: Rule::Of(Class::Digit, 4, 4),
+};
+
 const MEASURE: Field = Field {
     size: 2,
     rule: Rule::OneOf(Texts::Measure),
 };
 
+const PRICE: Field = Field {
+    size: 15,
+    rule: Rule::Of(Class::Digit, 15, 15),
+};
+
+const PRICE_QUALIFIER: Field = Field {
+    size: 2,
+    rule: Rule::Of(Class::Capital, 2, 2),
+};
+
+const CURRENCY: Field = Field {
+    size: 3,
+    rule: Rule::Of(Class::Capital, 3, 3),
+};
+
+const DISCOUNT: Field = Field {
+    size: 8,
+    rule: Rule::Of(Class::Digit, 8, 8),
+};
+
 const TAX_MARK: Field = Field {
     size: 1,
     rule: Rule::OneOf(Texts::TaxMark),
+};
+
+const MESSAGE: Field = Field {
+    size: 3,
+    rule: Rule::Of(Class::Digit, 3, 3),
 };
 
 const HOLD_MARK: Field = Field {
@@ -119,169 +147,182 @@ const EXPECTED_DATE: Field = Field {
     rule: Rule::ExpectedDate,
 };
 
-// How many fields a fixed part has.
-pub fn field_count(k: Kind) -> usize
-    ensures { result ≡ length (layout k) }
+const PARTIAL_QUANTITY: Field = Field {
+    size: 4,
+    rule: Rule::Of(Class::Zero, 4, 4),
+};
+
+// A closing record has zeros or blanks where goods have values.
+const NO_DATE: Field = Field {
+    size: 8,
+    rule: Rule::Of(Class::Zero, 8, 8),
+};
+
+const NO_SLIP_NUMBER: Field = Field {
+    size: 10,
+    rule: Rule::Of(Class::Blank, 10, 10),
+};
+
+const NO_POSITION: Field = Field {
+    size: 4,
+    rule: Rule::Of(Class::Blank, 4, 4),
+};
+
+const NO_REFERENCE: Field = Field {
+    size: 10,
+    rule: Rule::Of(Class::Blank, 10, 10),
+};
+
+const NO_ARTICLE: Field = Field {
+    size: 13,
+    rule: Rule::Of(Class::Blank, 13, 13),
+};
+
+const NO_ARTICLE_QUALIFIER: Field = Field {
+    size: 2,
+    rule: Rule::Of(Class::Blank, 2, 2),
+};
+
+const NO_QUANTITY: Field = Field {
+    size: 4,
+    rule: Rule::Of(Class::Zero, 4, 4),
+};
+
+const NO_PRICE: Field = Field {
+    size: 15,
+    rule: Rule::Of(Class::Zero, 15, 15),
+};
+
+const NO_PRICE_QUALIFIER: Field = Field {
+    size: 2,
+    rule: Rule::Of(Class::Blank, 2, 2),
+};
+
+const NO_CURRENCY: Field = Field {
+    size: 3,
+    rule: Rule::Of(Class::Blank, 3, 3),
+};
+
+const NO_DISCOUNT: Field = Field {
+    size: 8,
+    rule: Rule::Of(Class::Zero, 8, 8),
+};
+
+const NO_TAX_MARK: Field = Field {
+    size: 1,
+    rule: Rule::Of(Class::Blank, 1, 1),
+};
+
+const ORDER: [Field; ORDER_FIELDS] = [
+    KIND,
+    ADDRESS,
+    ADDRESS_QUALIFIER,
+    ADDRESS,
+    ADDRESS_QUALIFIER,
+    DATE,
+    ORDER_REFERENCE,
+    ARTICLE,
+    ARTICLE_QUALIFIER,
+    QUANTITY,
+    MEASURE,
+];
+
+const GOODS: [Field; DELIVERY_FIELDS] = [
+    KIND,
+    ADDRESS,
+    ADDRESS_QUALIFIER,
+    ADDRESS,
+    ADDRESS_QUALIFIER,
+    DATE,
+    SLIP_NUMBER,
+    POSITION,
+    REFERENCE,
+    ARTICLE,
+    ARTICLE_QUALIFIER,
+    QUANTITY,
+    PRICE,
+    PRICE_QUALIFIER,
+    CURRENCY,
+    DISCOUNT,
+    TAX_MARK,
+];
+
+const CLOSING: [Field; DELIVERY_FIELDS] = [
+    KIND,
+    ADDRESS,
+    ADDRESS_QUALIFIER,
+    ADDRESS,
+    ADDRESS_QUALIFIER,
+    NO_DATE,
+    NO_SLIP_NUMBER,
+    NO_POSITION,
+    NO_REFERENCE,
+    NO_ARTICLE,
+    NO_ARTICLE_QUALIFIER,
+    NO_QUANTITY,
+    NO_PRICE,
+    NO_PRICE_QUALIFIER,
+    NO_CURRENCY,
+    NO_DISCOUNT,
+    NO_TAX_MARK,
+];
+
+const REPORT: [Field; REPORT_FIELDS] = [
+    KIND,
+    ADDRESS,
+    ADDRESS_QUALIFIER,
+    ADDRESS,
+    ADDRESS_QUALIFIER,
+    SLIP_NUMBER,
+    REFERENCE,
+    ARTICLE,
+    ARTICLE_QUALIFIER,
+    MESSAGE,
+    HOLD_MARK,
+    EXPECTED_DATE,
+    PARTIAL_QUANTITY,
+];
+
+// The fields of a fixed part, in order.
+#[tactic(auto, unfolding(crate::specs::Layout::layout))]
+pub fn layout(k: Kind) -> &'static [Field]
+    ensures { result.now ≡ layout k }
 {
     match k {
-        Kind::Order => ORDER_FIELDS,
-        Kind::Goods => DELIVERY_FIELDS,
-        Kind::Closing => DELIVERY_FIELDS,
-        Kind::Report => REPORT_FIELDS,
+        Kind::Order => &ORDER,
+        Kind::Goods => &GOODS,
+        Kind::Closing => &CLOSING,
+        Kind::Report => &REPORT,
     }
 }
 
 // How long a fixed part is.
+#[tactic(auto, unfolding(crate::specs::Layout::fixed_width, crate::specs::Layout::layout, crate::specs::Layout::total))]
 pub fn fixed_width(k: Kind) -> usize
     ensures { result ≡ fixed_width k }
 {
     match k {
         Kind::Order => ORDER_WIDTH,
-        Kind::Goods => DELIVERY_WIDTH,
-        Kind::Closing => DELIVERY_WIDTH,
+        Kind::Goods | Kind::Closing => DELIVERY_WIDTH,
         Kind::Report => REPORT_WIDTH,
     }
 }
 
-// Exactly n bytes of a class.
-fn exactly(n: usize, c: Class) -> Field
-    ensures { result ≡ n ∶ Of c n n }
-{
-    Field {
-        size: n,
-        rule: Rule::Of(c, n, n),
-    }
-}
-
-// A field of what every record begins with.
-fn head_field(i: usize) -> Field
-    ensures { result ≡ get_or head i no_field }
-{
-    match i {
-        0 => KIND,
-        1 => ADDRESS,
-        2 => ADDRESS_QUALIFIER,
-        3 => ADDRESS,
-        4 => ADDRESS_QUALIFIER,
-        _ => NO_FIELD,
-    }
-}
-
-fn order_field(i: usize) -> Field
-    ensures { result ≡ get_or (layout Order) i no_field }
-{
-    match i {
-        5 => DATE,
-        6 => ORDER_REFERENCE,
-        7 => ARTICLE,
-        8 => ARTICLE_QUALIFIER,
-        // Quantity, and its qualifier.
-        9 => exactly(4, Class::Digit),
-        10 => MEASURE,
-        _ => head_field(i),
-    }
-}
-
-fn goods_field(i: usize) -> Field
-    ensures { result ≡ get_or (layout Goods) i no_field }
-{
-    match i {
-        5 => DATE,
-        6 => SLIP_NUMBER,
-        // Position.
-        7 => exactly(4, Class::Digit),
-        8 => REFERENCE,
-        9 => ARTICLE,
-        10 => ARTICLE_QUALIFIER,
-        // Quantity, price, price qualifier, currency, discount.
-        11 => exactly(4, Class::Digit),
-        12 => exactly(15, Class::Digit),
-        13 => exactly(2, Class::Capital),
-        14 => exactly(3, Class::Capital),
-        15 => exactly(8, Class::Digit),
-        16 => TAX_MARK,
-        _ => head_field(i),
-    }
-}
-
-fn closing_field(i: usize) -> Field
-    ensures { result ≡ get_or (layout Closing) i no_field }
-{
-    match i {
-        // Date, slip number, position, reference, article and its qualifier.
-        5 => exactly(8, Class::Zero),
-        6 => exactly(10, Class::Blank),
-        7 => exactly(4, Class::Blank),
-        8 => exactly(10, Class::Blank),
-        9 => exactly(13, Class::Blank),
-        10 => exactly(2, Class::Blank),
-        // Quantity, price, price qualifier, currency, discount, tax mark.
-        11 => exactly(4, Class::Zero),
-        12 => exactly(15, Class::Zero),
-        13 => exactly(2, Class::Blank),
-        14 => exactly(3, Class::Blank),
-        15 => exactly(8, Class::Zero),
-        16 => exactly(1, Class::Blank),
-        _ => head_field(i),
-    }
-}
-
-fn report_field(i: usize) -> Field
-    ensures { result ≡ get_or (layout Report) i no_field }
-{
-    match i {
-        5 => SLIP_NUMBER,
-        6 => REFERENCE,
-        7 => ARTICLE,
-        8 => ARTICLE_QUALIFIER,
-        // Message, hold mark, expected date, partial quantity.
-        9 => exactly(3, Class::Digit),
-        10 => HOLD_MARK,
-        11 => EXPECTED_DATE,
-        12 => exactly(4, Class::Zero),
-        _ => head_field(i),
-    }
-}
-
-// The field with an index. It has one caller, so that the compiler puts it there.
-fn field_of(k: Kind, i: usize) -> Field
-    ensures { result ≡ get_or (layout k) i no_field }
-{
-    match k {
-        Kind::Order => order_field(i),
-        Kind::Goods => goods_field(i),
-        Kind::Closing => closing_field(i),
-        Kind::Report => report_field(i),
-    }
-}
-
-// How many bytes the field with an index has.
-pub fn size_of(k: Kind, i: usize) -> usize
-    ensures { result ≡ (get_or (layout k) i no_field).size }
-{
-    match k {
-        Kind::Order => order_field(i).size,
-        Kind::Goods => goods_field(i).size,
-        Kind::Closing => closing_field(i).size,
-        Kind::Report => report_field(i).size,
-    }
-}
-
-// Where the field with an index starts.
+// Where the field with an index starts; past the last, where the fixed part ends.
+#[tactic(auto, using(crate::proofs::Layouts::starts), unfolding(crate::specs::Layout::start_of, crate::specs::Layout::total))]
 pub fn start_of(k: Kind, index: usize) -> usize
     ensures { result ≡ start_of (layout k) index }
 {
-    let count = field_count(k);
+    let fields = layout(k);
     let mut at: usize = 0;
-    let mut i: usize = 0;
-    while (i < index) & (i < count) {
-        at += size_of(k, i);
-        i += 1;
+    for f in &fields[..index.min(fields.len())] {
+        at += f.size;
     }
     at
 }
 
 // The index of the first that breaks its rule of the fields that every record begins with, or their number; the kind breaks none.
+#[tactic(auto, using(crate::proofs::Layouts::head_judged))]
 fn head_broken(s: &[u8]) -> usize
     ensures { result ≡ first_broken head s.now }
 {
@@ -306,26 +347,25 @@ fn head_broken(s: &[u8]) -> usize
 }
 
 // The same of the fields after them, by the layout.
+#[tactic(auto, using(crate::proofs::Layouts::total_at, crate::proofs::Layouts::broken_at, crate::proofs::Layouts::head_room), unfolding(crate::specs::Layout::layout, crate::specs::Layout::total, crate::specs::Layout::first_broken))]
 fn rest_broken(k: Kind, s: &[u8]) -> usize
     ensures { result ≡ 5 + first_broken (drop 5 (layout k)) (drop 28 s.now) }
 {
-    let count = field_count(k);
+    let fields = layout(k);
     let mut at = PARTIES_END;
-    let mut i = HEAD_FIELDS;
-    while i < count {
-        let f = field_of(k, i);
-        let rule = f.rule;
+    for i in HEAD_FIELDS..fields.len() {
+        let f = fields[i];
         let end = at + f.size;
-        if !keeps_rule(rule, s, end, part(s, at, end)) {
+        if !keeps_rule(f.rule, s, end, part(s, at, end)) {
             return i;
         }
         at = end;
-        i += 1;
     }
-    i
+    fields.len()
 }
 
 // The index of the first fixed field that breaks its rule, or the number of fields where none does.
+#[tactic(auto, using(crate::proofs::Layouts::found_first))]
 pub fn first_broken(k: Kind, s: &[u8]) -> usize
     ensures { result ≡ first_broken (layout k) s.now }
 {
@@ -336,6 +376,7 @@ pub fn first_broken(k: Kind, s: &[u8]) -> usize
     rest_broken(k, s)
 }
 
+#[tactic(auto, unfolding(crate::specs::Layout::kind_of))]
 // The kind that the first four bytes name; an L101 dated eight zeros is a closing record.
 pub fn kind_of(s: &[u8]) -> Option<Kind>
     ensures { result ≡ kind_of s.now }

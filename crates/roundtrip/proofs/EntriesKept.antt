@@ -15,7 +15,7 @@ use Rattle.record.specs.declared.layout.Kind.{Kind}
 use Rattle.writing.specs.Write.{content_byte, content_in, optional_in, optional_of, inside, writable, next_id, entry_kept, fields_judged}
 use Rattle.writing.specs.Widths.{all_inside}
 use Rattle.writing.specs.declared.answer.Refusal.TheVariants.{Content, Group}
-use Rattle.std.specs.Prelude.{Ok}
+use Rattle.std.specs.Prelude.{Ok, Some, Option}
 use Rattle.writing.specs.declared.entries.Entry.{Entry}
 use Rattle.writing.proofs.Fitting.{refuses_false}
 use Rattle.roundtrip.specs.Record.{id_after, optional_kept}
@@ -32,14 +32,14 @@ module _ (k : Kind) (contents : List ℕ) where
   next_id_law (e ∷ es) = refl
 
   -- what an accepted entry and those after it have passed
-  record Passed (before i : ℕ) (e : Entry) (es : List Entry) (m : ℕ) : Type 0 where
+  record Passed (before : Option ℕ) (i : ℕ) (e : Entry) (es : List Entry) (m : ℕ) : Type 0 where
     below : ltb e.id last_id ≡ true
     bytes : all (belongs Allowed) (content_in contents e) && all not_star (content_in contents e) ≡ true
     content : content_kept k e.id (content_in contents e) ≡ true
     group : group_kept before e.id (next_id es) ≡ true
-    others : fields_judged k contents e.id (i + 1) es ≡ Ok m
+    others : fields_judged k contents (Some e.id) (i + 1) es ≡ Ok m
 
-  passes : (before i : ℕ) (e : Entry) (es : List Entry) (m : ℕ) → fields_judged k contents before i (e ∷ es) ≡ Ok m → Passed before i e es m
+  passes : (before : Option ℕ) (i : ℕ) (e : Entry) (es : List Entry) (m : ℕ) → fields_judged k contents before i (e ∷ es) ≡ Ok m → Passed before i e es m
   unfolding fields_judged entry_kept writable belongs
   passes before i e es m h =
       let one = refuses_false (entry_kept k contents e) _ (Content i) m h in
@@ -55,26 +55,26 @@ module _ (k : Kind) (contents : List ℕ) where
       }
 
   -- the fields that accepted entries name are kept
-  pub accepted_kept : (before i : ℕ) (es : List Entry) (m : ℕ) → fields_judged k contents before i es ≡ Ok m
+  pub accepted_kept : (before : Option ℕ) (i : ℕ) (es : List Entry) (m : ℕ) → fields_judged k contents before i es ≡ Ok m
       → optional_kept k before (optional_of contents es) ≡ true
   unfolding optional_of optional_in optional_kept
   accepted_kept before i [] m h = refl
   accepted_kept before i (e ∷ es) m h =
       let p = passes before i e es m h in
       rw (p.below, and_right (all (belongs Allowed) (content_in contents e)) _ p.bytes, p.content, next_id_law es, p.group)
-      (accepted_kept e.id (i + 1) es m p.others)
+      (accepted_kept (Some e.id) (i + 1) es m p.others)
 
   -- and their bytes are allowed
-  pub accepted_allowed : (before i : ℕ) (es : List Entry) (m : ℕ) → fields_judged k contents before i es ≡ Ok m
+  pub accepted_allowed : (before : Option ℕ) (i : ℕ) (es : List Entry) (m : ℕ) → fields_judged k contents before i es ≡ Ok m
       → contents_allowed (optional_of contents es) ≡ true
   unfolding optional_of optional_in contents_allowed
   accepted_allowed before i [] m h = refl
   accepted_allowed before i (e ∷ es) m h =
       let p = passes before i e es m h in
-      rw (and_left (all (belongs Allowed) (content_in contents e)) (all not_star (content_in contents e)) p.bytes) (accepted_allowed e.id (i + 1) es m p.others)
+      rw (and_left (all (belongs Allowed) (content_in contents e)) (all not_star (content_in contents e)) p.bytes) (accepted_allowed (Some e.id) (i + 1) es m p.others)
 
   -- entries inside the lent contents whose fields are kept, of bytes that are allowed, are accepted
-  pub kept_accepted : (before i : ℕ) (es : List Entry) → all_inside contents es ≡ true → optional_kept k before (optional_of contents es) ≡ true
+  pub kept_accepted : (before : Option ℕ) (i : ℕ) (es : List Entry) → all_inside contents es ≡ true → optional_kept k before (optional_of contents es) ≡ true
       → contents_allowed (optional_of contents es) ≡ true → fields_judged k contents before i es ≡ Ok 0
   unfolding optional_of optional_in contents_allowed all_inside fields_judged entry_kept writable belongs
   kept_accepted before i [] within kept ok = refl
@@ -83,4 +83,4 @@ module _ (k : Kind) (contents : List ℕ) where
       let o = and_left (all (belongs Allowed) (content_in contents e)) _ ok in
       let b : all content_byte (content_in contents e) ≡ true = rw (all_and allowed not_star (content_in contents e), o) a.plain in
       rw (lt-ltb e.id last_id a.below, and_left (inside contents e) _ within, b, a.content, ← next_id_law es, a.group)
-      (kept_accepted e.id (i + 1) es (and_right (inside contents e) _ within) a.others (and_right (all (belongs Allowed) (content_in contents e)) _ ok))
+      (kept_accepted (Some e.id) (i + 1) es (and_right (inside contents e) _ within) a.others (and_right (all (belongs Allowed) (content_in contents e)) _ ok))

@@ -13,14 +13,13 @@ use Rattle.signs.specs.Class.{belongs}
 use Rattle.signs.specs.declared.Class.TheVariants.{Allowed}
 use Rattle.signs.proofs.Runs.{run_all, all_whole}
 use Rattle.record.specs.Layout.{most_fields, layout, fixed_width, kind_of, first_broken}
-use Rattle.record.specs.Contents.{no_member}
 use Rattle.record.specs.Answers.{refusal_number, checked_of}
 use Rattle.record.specs.Fields.{head_width, walk, judge, Optional, fields_of}
 use Rattle.record.specs.Read.{judged, kind_judged, entry_width, optional_start, optional_fields, Outcome, check}
 use Rattle.record.specs.declared.answer.Refusal.{Refusal}
 use Rattle.record.specs.declared.answer.Refusal.TheVariants.{TooLong, UnknownKind, TooShort, Byte, FixedField, NoField, LastField, TooManyFields, Content, Group, SmallTable}
 use Rattle.record.specs.Verdicts.{Verdict}
-use Rattle.std.specs.Prelude.{Err, Ok, Option, Some}
+use Rattle.std.specs.Prelude.{Err, Ok, Option, Some, None}
 use Rattle.record.specs.declared.layout.Kind.{Kind}
 use Rattle.reader.proofs.Stages.{by_kind, kind_rest, judge_fits, small_table, check_fits}
 use Rattle.reader.proofs.Fitting.{Fitting, fitting, fits_known, fits_long, fits_count}
@@ -94,13 +93,13 @@ module _ (k : Kind) (fixed : List ℕ) (fs : List Optional) (w : Whole k fixed f
 
   -- both walks over it pass each field
   sound : AllWritable fs
-  sound = kept_writable k no_member fs w.kept
+  sound = kept_writable k None fs w.kept
 
   walked : walk most_fields 0 (fixed_width k) (drop (fixed_width k) text) ≡ Ok (length fs)
   walked = rw behind (text_walked fs sound most_fields 0 (fixed_width k) w.few ∙ ap Ok (zero-add (length fs)))
 
-  well : judge k (length fs) no_member (fixed_width k) (drop (fixed_width k) text) ≡ Ok 0
-  well = rw behind (text_judged k no_member (fixed_width k) fs w.kept)
+  well : judge k (length fs) None (fixed_width k) (drop (fixed_width k) text) ≡ Ok 0
+  well = rw behind (text_judged k None (fixed_width k) fs w.kept)
 
   -- none of its fixed fields is broken
   unbroken : first_broken (layout k) text ≡ length (layout k)
@@ -189,7 +188,7 @@ module _ (k : Kind) (s : List ℕ) (n : ℕ) (g : kind_of s ≡ Some k) (e : jud
     named = fixed_kind;
     wide = fixed_long;
     unbroken = fixed_unbroken;
-    kept = judged_kept k n no_member (fixed_width k) (optional_from k s) fit.whole.0 fits_fields fit.whole.1;
+    kept = judged_kept k n None (fixed_width k) (optional_from k s) fit.whole.0 fits_fields fit.whole.1;
     few = rw (fields_count n (optional_from k s)) (fits_count s n e);
     short = rw fits_text (fits_long s n e);
     allowed = rw fits_text (run_all (belongs Allowed) s fit.allowed);

@@ -9,10 +9,9 @@ use Rattle.cells.specs.Bytes.{all}
 use Rattle.signs.specs.Class.{belongs}
 use Rattle.signs.specs.declared.Class.TheVariants.{Allowed}
 use Rattle.record.specs.Layout.{most_bytes, most_fields, layout, fixed_width, kind_of, first_broken}
-use Rattle.record.specs.Contents.{no_member}
 use Rattle.record.specs.Fields.{Optional}
 use Rattle.record.specs.declared.layout.Kind.{Kind}
-use Rattle.std.specs.Prelude.{Some}
+use Rattle.std.specs.Prelude.{Some, None}
 use Rattle.writing.specs.Write.{record_text}
 use Rattle.roundtrip.specs.Record.{Parts, fixed_part, optional_kept, MakesRecord, Makes}
 use Rattle.roundtrip.proofs.FixedFields.{fields_from}
@@ -23,7 +22,7 @@ pub record Whole (k : Kind) (fixed : List ℕ) (fs : List Optional) : Type 0 whe
   pub named : kind_of fixed ≡ Some k
   pub wide : length fixed ≡ fixed_width k
   pub unbroken : first_broken (layout k) fixed ≡ length (layout k)
-  pub kept : optional_kept k no_member fs ≡ true
+  pub kept : optional_kept k None fs ≡ true
   pub few : length fs ≤ most_fields
   pub short : length (record_text fixed fs) ≤ most_bytes
   pub allowed : all (belongs Allowed) (record_text fixed fs) ≡ true

@@ -13,14 +13,13 @@ use Rattle.signs.specs.Class.{belongs}
 use Rattle.signs.specs.declared.Class.TheVariants.{Allowed}
 use Rattle.signs.proofs.Runs.{run_all, all_whole}
 use Rattle.record.specs.Layout.{most_bytes, most_fields, kind_of}
-use Rattle.record.specs.Contents.{no_member}
 use Rattle.record.specs.Fields.{Optional}
 use Rattle.record.specs.declared.layout.Kind.{Kind}
 use Rattle.writing.specs.Write.{refusal_number, fixed_judged, entries, optional_of, optional_text, record_text, fields_judged, length_judged, write_judged, written_of, outcome, write}
 use Rattle.writing.specs.declared.answer.Refusal.{Refusal}
 use Rattle.writing.specs.declared.answer.Refusal.TheVariants.{FixedField, TooManyFields, SmallTable, Content, Group, TooLong, SmallOutput}
 use Rattle.writing.specs.Verdicts.{Verdict}
-use Rattle.std.specs.Prelude.{Err, Ok}
+use Rattle.std.specs.Prelude.{Err, Ok, None}
 use Rattle.writing.proofs.Stages.{fixed_fits, fields_fit, fixed_passed, write_fits}
 use Rattle.writing.proofs.Fitting.{Fitting, fitting, fits_inside}
 use Rattle.roundtrip.specs.Record.{CanWrite}
@@ -73,8 +72,8 @@ module _ (fixed table : List ℕ) (count : ℕ) (contents out : List ℕ) where
     fixed_done =
         rw w.named (fixed_fits k fixed w.wide (faultless k fixed w.wide w.unbroken (all_whole (belongs Allowed) fixed both_allowed.0)))
 
-    fields_done : fields_judged k contents no_member 0 (entries count table) ≡ Ok 0
-    fields_done = kept_accepted k contents no_member 0 (entries count table) c.lent w.kept both_allowed.1
+    fields_done : fields_judged k contents None 0 (entries count table) ≡ Ok 0
+    fields_done = kept_accepted k contents None 0 (entries count table) c.lent w.kept both_allowed.1
 
     length_done : length_judged (length text) out ≡ Ok (length text)
     unfolding length_judged
@@ -103,10 +102,10 @@ module _ (fixed table : List ℕ) (count : ℕ) (contents out : List ℕ) where
         named = a.named;
         wide = a.wide;
         unbroken = faultless_kept k fixed a.sound;
-        kept = accepted_kept k contents no_member 0 (entries count table) a.kept.0 a.kept.1;
+        kept = accepted_kept k contents None 0 (entries count table) a.kept.0 a.kept.1;
         few = omega (arith, as_many, a.few);
         short = omega (arith, a.long, a.short);
-        allowed = rw (all_append (belongs Allowed) fixed (optional_text fields), f, text_allowed fields) (accepted_allowed k contents no_member 0 (entries count table) a.kept.0 a.kept.1);
+        allowed = rw (all_append (belongs Allowed) fixed (optional_text fields), f, text_allowed fields) (accepted_allowed k contents None 0 (entries count table) a.kept.0 a.kept.1);
       }
 
   -- so where writing answers 0, what it needs was there

@@ -1,11 +1,11 @@
 -- What a record of document 01 is, said of its parts and without a walk over its bytes: a kind, the fields of a fixed part, and optional fields.
-use Rattle.std.specs.Prelude.{ℕ, ◌*◌, ◌≤◌, ◌≡◌, Bool, true, false, ◌&&◌, List, [], ◌∷◌, eqb, ltb, length, take, Some}
+use Rattle.std.specs.Prelude.{ℕ, ◌*◌, ◌≤◌, ◌≡◌, Bool, true, false, ◌&&◌, List, [], ◌∷◌, eqb, ltb, length, take, Some, None, Option}
 use Rattle.cells.specs.Bytes.{all, joined}
 use Rattle.signs.specs.Class.{belongs}
 use Rattle.rules.specs.Rule.{keeps}
 use Rattle.signs.specs.declared.Class.TheVariants.{Allowed}
 use Rattle.record.specs.Layout.{most_bytes, most_fields, layout, kind_of}
-use Rattle.record.specs.Contents.{no_member, content_kept, group_kept}
+use Rattle.record.specs.Contents.{content_kept, group_kept}
 use Rattle.record.specs.Fields.{last_id, not_star, Optional}
 use Rattle.record.specs.Read.{entry_width}
 use Rattle.record.specs.declared.layout.Field.{Field}
@@ -43,20 +43,20 @@ abbrev pub id_after : List Optional → ℕ
 id_after [] = last_id
 id_after (f ∷ fs) = f.id
 
--- each optional field has an ID below 9999 and a content without a star, as the table has it, and keeps its group; before is the ID of the field before the first
-unfoldable pub optional_kept : Kind → ℕ → List Optional → Bool
+-- each optional field has an ID below 9999 and a content without a star, as the table has it, and keeps its group; before is the ID of the field before the first, where there is one
+unfoldable pub optional_kept : Kind → Option ℕ → List Optional → Bool
 optional_kept k before [] = true
 optional_kept k before (f ∷ fs) =
     (ltb f.id last_id && all not_star f.content)
     && (content_kept k f.id f.content
     && (group_kept before f.id (id_after fs)
-    && optional_kept k f.id fs))
+    && optional_kept k (Some f.id) fs))
 
 -- the parts make a record: the fixed part names the kind and keeps its layout, the optional fields are kept and at most so many, the whole is at most so long, and every byte is allowed
 pub record MakesRecord (r : Parts) : Type 0 where
   pub named : kind_of (fixed_part r) ≡ Some r.kind
   pub fixed_is_kept : fixed_kept (layout r.kind) r.fixed ≡ true
-  pub optional_is_kept : optional_kept r.kind no_member r.optional ≡ true
+  pub optional_is_kept : optional_kept r.kind None r.optional ≡ true
   pub few : length r.optional ≤ most_fields
   pub short : length (text_of r) ≤ most_bytes
   pub allowed : all (belongs Allowed) (text_of r) ≡ true

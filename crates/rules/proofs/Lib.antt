@@ -2,4 +2,3 @@ pub mod Digits
 pub mod Parts
 pub mod Days
 pub mod Sums
-pub mod Rows

@@ -1,5 +1,5 @@
 -- The field rules as data, and what it means to keep one.
-use Rattle.std.specs.Prelude.{ℕ, zero, suc, take, drop, Bool, true, ◌&&◌, ◌||◌, List, [], ◌∷◌}
+use Rattle.std.specs.Prelude.{ℕ, Bool, true, ◌&&◌, ◌||◌, List, [], ◌∷◌}
 use Rattle.cells.specs.Bytes.{bytes, within, among}
 use Rattle.signs.specs.Class.{of_class, padded, named}
 use Rattle.rules.specs.Number.{number}
@@ -10,11 +10,6 @@ use Rattle.rules.specs.declared.rule.Texts.{Texts}
 use Rattle.rules.specs.declared.rule.Texts.TheVariants.{Party, Numbering, Measure, HoldMark, TaxMark, PartTax, YesOnly, YesOrU, Medium, NetPrice, ListPrice}
 use Rattle.rules.specs.declared.rule.Rule.{Rule}
 use Rattle.rules.specs.declared.rule.Rule.TheVariants.{Free, Of, Padded, Named, OneOf, DayCount, Date, ExpectedDate, Article}
-
--- the texts of a row: so many of them, one after the other, each of one width
-unfoldable pub row_texts : ℕ → ℕ → List ℕ → List (List ℕ)
-row_texts width zero row = []
-row_texts width (suc count) row = take width row ∷ row_texts width count (drop width row)
 
 -- the texts that a rule names
 unfoldable pub texts : Texts → List (List ℕ)

@@ -13,12 +13,18 @@ use Rattle.rules.specs.declared.expected.Expected.TheVariants.{On, Zeros, Blanks
 use Rattle.rules.specs.declared.day.Day.{Day}
 
 -- a price counts ten-thousandths of its currency
+abbrev pub price : ℕ → Price
+price n = record { 0 = n }
+
 abbrev pub price_of : List ℕ → Price
-price_of s = record { 0 = number s }
+price_of s = price (number s)
 
 -- a discount counts ten-thousandths of one percent
+abbrev pub discount : ℕ → Discount
+discount n = record { 0 = n }
+
 abbrev pub discount_of : List ℕ → Discount
-discount_of s = record { 0 = number s }
+discount_of s = discount (number s)
 
 -- so many copies
 abbrev pub copies : ℕ → Copies

@@ -1,39 +1,66 @@
 // Prices, discounts and copies, kept apart from each other.
-ghost use Rattle.std.specs.Prelude.{◌≡◌, ◌≤◌, length};
-ghost use Rattle.rules.specs.Values.{price_of, discount_of, copies_of};
+ghost use Rattle.std.specs.Prelude.{◌≡◌, ℕ, ◌≤◌, length};
+ghost use Rattle.rules.specs.Number.{number};
+ghost use Rattle.rules.specs.Values.{price, discount, copies};
 
 use crate::number::number_of;
+use std::fmt;
 
 // Ten-thousandths of the currency.
-#[derive(Clone, Copy)]
+#[derive(Clone, Copy, PartialEq, Eq, Debug, Default)]
 pub struct Price(pub u64);
 
 // Ten-thousandths of a percent.
-#[derive(Clone, Copy)]
+#[derive(Clone, Copy, PartialEq, Eq, Debug, Default)]
 pub struct Discount(pub u64);
 
 // So many copies; a number of 64 bits for C too.
 #[repr(C)]
-#[derive(Clone, Copy)]
+#[derive(Clone, Copy, PartialEq, Eq, Debug, Default)]
 pub struct Copies(pub u64);
 
-pub fn price_of(s: &[u8]) -> Price
-    requires { length s.now ≤ 15 }
-    ensures { result ≡ price_of s.now }
-{
-    Price(number_of(s))
+// What digits count of: `of` gives that many.
+pub trait Amount {
+    ghost of: { ℕ → Self };
+
+    fn of(n: u64) -> Self
+        ensures { result ≡ of n };
 }
 
-pub fn discount_of(s: &[u8]) -> Discount
-    requires { length s.now ≤ 15 }
-    ensures { result ≡ discount_of s.now }
-{
-    Discount(number_of(s))
+impl Amount for Price {
+    ghost of = { price };
+
+    fn of(n: u64) -> Price {
+        Price(n)
+    }
 }
 
-pub fn copies_of(s: &[u8]) -> Copies
+impl Amount for Discount {
+    ghost of = { discount };
+
+    fn of(n: u64) -> Discount {
+        Discount(n)
+    }
+}
+
+impl Amount for Copies {
+    ghost of = { copies };
+
+    fn of(n: u64) -> Copies {
+        Copies(n)
+    }
+}
+
+// The amount that at most fifteen digits spell.
+pub fn amount_of<A: Amount>(s: &[u8]) -> A
     requires { length s.now ≤ 15 }
-    ensures { result ≡ copies_of s.now }
+    ensures { result ≡ A.of (number s.now) }
 {
-    Copies(number_of(s))
+    A::of(number_of(s))
+}
+
+impl fmt::Display for Copies {
+    fn fmt<W: fmt::Write>(&self, f: &mut fmt::Formatter<W>) -> fmt::Result {
+        write!(f, "{}", self.0)
+    }
 }

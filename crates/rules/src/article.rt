@@ -12,6 +12,7 @@ const GS1: [u64; 13] = [1, 3, 1, 3, 1, 3, 1, 3, 1, 3, 1, 3, 1];
 const ISBN: [u64; 10] = [10, 9, 8, 7, 6, 5, 4, 3, 2, 1];
 
 // What a character of a check sum counts.
+#[tactic(auto, unfolding(crate::specs::Article::check_value))]
 fn check_value(b: u8) -> u64
     ensures { (result ≡ check_value b) × (result ≤ 207) }
 {
@@ -27,15 +28,14 @@ fn weighted_sum(weights: &[u64], s: &[u8]) -> u64
     ensures { result ≡ weighted weights.now s.now }
 {
     let mut sum: u64 = 0;
-    let mut i: usize = 0;
-    while i < s.len() {
-        sum += weights[i] * check_value(s[i]);
-        i += 1;
+    for (i, b) in s.iter().enumerate() {
+        sum += weights[i] * check_value(*b);
     }
     sum
 }
 
 // Thirteen digits with the GS1 check digit.
+#[tactic(auto, unfolding(crate::specs::Article::gs1))]
 fn is_gs1(s: &[u8]) -> bool
     ensures { result ≡ gs1 s.now }
 {
@@ -46,6 +46,7 @@ fn is_gs1(s: &[u8]) -> bool
 }
 
 // Ten characters with the modulo 11 check.
+#[tactic(auto, unfolding(crate::specs::Article::isbn, cells::specs::Bytes::all))]
 fn is_isbn(s: &[u8]) -> bool
     requires { length s.now ≤ 10 }
     ensures { result ≡ isbn s.now }
@@ -56,6 +57,7 @@ fn is_isbn(s: &[u8]) -> bool
 }
 
 // Three digits, five blanks, five digits.
+#[tactic(auto, unfolding(crate::specs::Article::series_volume))]
 fn is_series_volume(s: &[u8]) -> bool
     ensures { result ≡ series_volume s.now }
 {
@@ -64,6 +66,7 @@ fn is_series_volume(s: &[u8]) -> bool
 }
 
 // The article by the qualifier after it.
+#[tactic(auto, unfolding(crate::specs::Article::article))]
 pub fn is_article(qualifier: &[u8], s: &[u8]) -> bool
     ensures { result ≡ article qualifier.now s.now }
 {

@@ -6,8 +6,9 @@ ghost use Rattle.signs.specs.declared.Class.TheVariants.{Digit};
 
 use crate::number::pair_at;
 use signs::{NINE, ZERO};
+use std::fmt;
 
-#[derive(Clone, Copy)]
+#[derive(Clone, Copy, PartialEq, Eq, Debug, Default)]
 pub struct Day {
     pub year: u64,
     pub month: u64,
@@ -18,6 +19,7 @@ const FEBRUARY: u64 = 2;
 
 const LAST_MONTH: u64 = 12;
 
+#[tactic(auto, unfolding(crate::specs::Day::leap))]
 fn is_leap(year: u64) -> bool
     ensures { result ≡ leap year }
 {
@@ -39,6 +41,7 @@ fn long_month(month: u64) -> u64
 }
 
 // The days of a month, 0 where there is no such month.
+#[tactic(auto, unfolding(crate::specs::Day::month_days))]
 fn month_days(year: u64, month: u64) -> u64
     ensures { result ≡ month_days year month }
 {
@@ -54,10 +57,11 @@ fn month_days(year: u64, month: u64) -> u64
 fn is_digit(b: u8) -> bool
     ensures { result ≡ digit b }
 {
-    (ZERO <= b) & (b <= NINE)
+    (ZERO..=NINE).contains(&b)
 }
 
 // Whether eight bytes are digits; none of them ends the test, so that they are judged together.
+#[tactic(auto, using(crate::proofs::Days::eight_digits))]
 fn are_digits(s: &[u8]) -> bool
     requires { length s.now ≡ day_width }
     ensures { result ≡ all_of Digit s.now }
@@ -70,6 +74,7 @@ fn are_digits(s: &[u8]) -> bool
 }
 
 // The parts of a day in eight digits, whether or not there is such a day.
+#[tactic(auto, unfolding(crate::specs::Day::day_of), using(crate::proofs::Digits::pairs_are))]
 fn day_parts(s: &[u8]) -> Day
     requires { length s.now ≡ day_width }
     ensures { result ≡ day_of s.now }
@@ -88,15 +93,16 @@ impl Day {
     pub const WIDTH: usize = 8;
 
     // Whether there is such a day.
+    #[tactic(auto, unfolding(crate::specs::Day::real_day))]
     pub fn is_real(self) -> bool
         ensures { result ≡ real_day self }
     {
         let days = month_days(self.year, self.month);
-        ((Day::FIRST_YEAR <= self.year) & (self.year <= Day::LAST_YEAR))
-            & ((1 <= self.day) & (self.day <= days))
+        (Day::FIRST_YEAR..=Day::LAST_YEAR).contains(&self.year) & (1..=days).contains(&self.day)
     }
 
     // A day from its digits, which are judged.
+    #[tactic(auto, unfolding(crate::specs::Day::dated, crate::specs::Day::is_day))]
     pub fn of_digits(s: &[u8]) -> Option<Day>
         ensures { result ≡ dated s.now }
     {
@@ -111,5 +117,11 @@ impl Day {
             return None;
         }
         Some(day)
+    }
+}
+
+impl fmt::Display for Day {
+    fn fmt<W: fmt::Write>(&self, f: &mut fmt::Formatter<W>) -> fmt::Result {
+        write!(f, "{}-{}-{}", self.year, self.month, self.day)
     }
 }

@@ -5,14 +5,15 @@ ghost use Rattle.rules.specs.Values.{expected_of};
 use crate::day::Day;
 use signs::{Class, all_of};
 
-// A day, eight zeros (document 001) or eight blanks (document 004); which of the three it was is kept.
-#[derive(Clone, Copy)]
+// A day, eight zeros or eight blanks (RULES 1.5); which of the three it was is kept.
+#[derive(Clone, Copy, PartialEq, Eq, Debug)]
 pub enum Expected {
     On(Day),
     Zeros,
     Blanks,
 }
 
+#[tactic(auto, unfolding(crate::specs::Values::expected_of))]
 pub fn expected_of(s: &[u8]) -> Expected
     ensures { result ≡ expected_of s.now }
 {

@@ -16,6 +16,7 @@ pub fn digit_value(b: u8) -> u64
 }
 
 // The number that the two digits at a place spell; of any two bytes it is at most eleven times 207.
+#[tactic(auto, using(crate::proofs::Digits::pair_is))]
 pub fn pair_at(s: &[u8], at: usize) -> u64
     requires { at + 2 ≤ length s.now }
     ensures { (result ≡ number (slice at (at + 2) s.now)) × (result ≤ 2277) }
@@ -29,10 +30,8 @@ pub fn number_of(s: &[u8]) -> u64
     ensures { result ≡ number s.now }
 {
     let mut n: u64 = 0;
-    let mut i: usize = 0;
-    while i < s.len() {
-        n = n * 10 + digit_value(s[i]);
-        i += 1;
+    for b in s {
+        n = n * 10 + digit_value(*b);
     }
     n
 }

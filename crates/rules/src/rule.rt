@@ -3,7 +3,7 @@ ghost use Rattle.std.specs.Prelude.{◌≡◌, ◌+◌, ◌^◌, ◌≤◌, ◌<
 ghost use Rattle.std.proofs.Math.Seq.{slice};
 ghost use Rattle.cells.specs.Bytes.{among};
 ghost use Rattle.rules.specs.Day.{is_day};
-ghost use Rattle.rules.specs.Rule.{row_texts, texts, day_count, expected, keeps};
+ghost use Rattle.rules.specs.Rule.{texts, day_count, expected, keeps};
 
 use crate::article::is_article;
 use crate::day::Day;
@@ -14,7 +14,7 @@ use signs::{Class, is_named, is_padded, of_class};
 const MOST_DAYS: u64 = 360;
 
 // Texts that a field may hold.
-#[derive(Clone, Copy)]
+#[derive(Clone, Copy, PartialEq, Eq, Debug)]
 pub enum Texts {
     Party,
     Numbering,
@@ -29,7 +29,7 @@ pub enum Texts {
     ListPrice,
 }
 
-#[derive(Clone, Copy)]
+#[derive(Clone, Copy, PartialEq, Eq, Debug)]
 pub enum Rule {
     // Anything.
     Free,
@@ -48,43 +48,32 @@ pub enum Rule {
     Article,
 }
 
-// Whether a field is one of the texts of a row: `count` texts of one width, one after the other.
-fn is_in_row(s: &[u8], row: &[u8], width: usize, count: usize) -> bool
-    requires { (width ≤ 3) × (count ≤ 5) }
-    ensures { result ≡ among s.now (row_texts width count row.now) }
-{
-    let mut at: usize = 0;
-    let mut i: usize = 0;
-    while i < count {
-        if same(s, part(row, at, at + width)) {
-            return true;
-        }
-        at += width;
-        i += 1;
-    }
-    false
-}
-
 // Whether a field holds one of the texts.
+#[tactic(auto, unfolding(crate::specs::Rule::texts, cells::specs::Bytes::among))]
 pub fn is_one_of(t: Texts, s: &[u8]) -> bool
     ensures { result ≡ among s.now (texts t) }
 {
     match t {
-        Texts::Party => is_in_row(s, b"VDIBSA", 2, 3),
-        Texts::Numbering => is_in_row(s, b"ENIBKNUMRK", 2, 5),
-        Texts::Measure => is_in_row(s, b"STNP", 2, 2),
-        Texts::HoldMark => is_in_row(s, b"JN", 1, 2),
-        Texts::TaxMark => is_in_row(s, b"0126", 1, 4),
-        Texts::PartTax => is_in_row(s, b"012", 1, 3),
-        Texts::YesOnly => is_in_row(s, b"J", 1, 1),
-        Texts::YesOrU => is_in_row(s, b"JU", 1, 2),
-        Texts::Medium => is_in_row(s, b"PHYDIG", 3, 2),
-        Texts::NetPrice => is_in_row(s, b"NO", 2, 1),
-        Texts::ListPrice => is_in_row(s, b"LPFP", 2, 2),
+        Texts::Party => same(s, b"VD") | same(s, b"IB") | same(s, b"SA"),
+        Texts::Numbering => same(s, b"EN")
+            | same(s, b"IB")
+            | same(s, b"KN")
+            | same(s, b"UM")
+            | same(s, b"RK"),
+        Texts::Measure => same(s, b"ST") | same(s, b"NP"),
+        Texts::HoldMark => same(s, b"J") | same(s, b"N"),
+        Texts::TaxMark => same(s, b"0") | same(s, b"1") | same(s, b"2") | same(s, b"6"),
+        Texts::PartTax => same(s, b"0") | same(s, b"1") | same(s, b"2"),
+        Texts::YesOnly => same(s, b"J"),
+        Texts::YesOrU => same(s, b"J") | same(s, b"U"),
+        Texts::Medium => same(s, b"PHY") | same(s, b"DIG"),
+        Texts::NetPrice => same(s, b"NO"),
+        Texts::ListPrice => same(s, b"LP") | same(s, b"FP"),
     }
 }
 
 // One to three digits that spell a number from 1 to 360.
+#[tactic(auto, unfolding(crate::specs::Rule::day_count))]
 pub fn is_day_count(s: &[u8]) -> bool
     ensures { result ≡ day_count s.now }
 {
@@ -92,19 +81,19 @@ pub fn is_day_count(s: &[u8]) -> bool
         return false;
     }
     let n = number_of(s);
-    (1 <= n) & (n <= MOST_DAYS)
+    (1..=MOST_DAYS).contains(&n)
 }
 
+// Whether eight bytes are the digits of a day.
+#[tactic(auto, unfolding(crate::specs::Day::dated))]
 pub fn is_day(s: &[u8]) -> bool
     ensures { result ≡ is_day s.now }
 {
-    match Day::of_digits(s) {
-        Some(_) => true,
-        None => false,
-    }
+    Day::of_digits(s).is_some()
 }
 
 // Whether bytes are one of the three forms of an expected date.
+#[tactic(auto, unfolding(crate::specs::Rule::expected))]
 pub fn is_expected(s: &[u8]) -> bool
     ensures { result ≡ expected s.now }
 {
@@ -114,6 +103,7 @@ pub fn is_expected(s: &[u8]) -> bool
 }
 
 // Whether a field keeps its rule; the article's rule alone asks for the two bytes after it, so it is told what the field stands in and where it ends.
+#[tactic(auto, unfolding(crate::specs::Rule::keeps))]
 pub fn keeps_rule(rule: Rule, whole: &[u8], end: usize, s: &[u8]) -> bool
     requires { end + 2 < 2 ^ 64 }
     ensures { result ≡ keeps rule (slice end (end + 2) whole.now) s.now }

@@ -10,7 +10,7 @@ ghost use Rattle.parts.specs.Part.{text_of, price_from, article_from, part_of};
 use cells::part;
 use parts::fit::{ARTICLE_WIDTH, MOST_DIGITS, fitted2, fitted3, fitted35};
 use parts::part::{Part, PartArticle, PartPrice, medium_of};
-use rules::amount::price_of;
+use rules::amount::{Price, amount_of};
 use writing::entries::entry_at;
 
 // The content of a field of a loop.
@@ -29,7 +29,7 @@ fn price_from(contents: &[u8], table: &[usize], i: usize) -> PartPrice
     ensures { result ≡ price_from i (optional_of contents.now (entries loop_fields table.now)) }
 {
     let digits = part(text_of(contents, table, i), 0, MOST_DIGITS);
-    let amount = price_of(digits);
+    let amount = amount_of::<Price>(digits);
     let qualifier = fitted2(text_of(contents, table, i + 1));
     let currency = fitted3(text_of(contents, table, i + 2));
     PartPrice {

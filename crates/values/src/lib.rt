@@ -15,7 +15,7 @@ use record::places::{
     REFERENCE, REPORT_ARTICLE, REPORT_REFERENCE, REPORT_SLIP, SENDER, SLIP, TAX,
 };
 use record::values::{Article, Delivery, Order, Party, Report};
-use rules::amount::{Copies, Discount, Price, copies_of, discount_of, price_of};
+use rules::amount::{Copies, Discount, Price, amount_of};
 use rules::day::Day;
 use rules::expected::{Expected, expected_of};
 use rules::number::number_of;
@@ -116,7 +116,7 @@ pub fn order_of(s: &[u8]) -> Order
     let date = day_of(part(s, DATE_START, ORDER_REFERENCE));
     let reference = bytes10(s, ORDER_REFERENCE);
     let article = article_at(s, ORDER_ARTICLE);
-    let quantity = copies_of(part(s, ORDER_QUANTITY, ORDER_MEASURE));
+    let quantity = amount_of::<Copies>(part(s, ORDER_QUANTITY, ORDER_MEASURE));
     let measure = bytes2(s, ORDER_MEASURE);
     Order {
         sender,
@@ -141,11 +141,11 @@ pub fn delivery_of(s: &[u8]) -> Delivery
     let position = bytes4(s, POSITION);
     let reference = bytes10(s, REFERENCE);
     let article = article_at(s, ARTICLE);
-    let quantity = copies_of(part(s, QUANTITY, PRICE));
-    let price = price_of(part(s, PRICE, PRICING));
+    let quantity = amount_of::<Copies>(part(s, QUANTITY, PRICE));
+    let price = amount_of::<Price>(part(s, PRICE, PRICING));
     let pricing = bytes2(s, PRICING);
     let currency = bytes3(s, CURRENCY);
-    let discount = discount_of(part(s, DISCOUNT, TAX));
+    let discount = amount_of::<Discount>(part(s, DISCOUNT, TAX));
     let tax = s[TAX];
     Delivery {
         sender,

@@ -1,11 +1,10 @@
 // The optional fields of a record: walked, judged and listed in a table.
 #![tactic(auto)]
 
-ghost use Rattle.std.specs.Prelude.{◌≡◌, [], ◌∷◌, ◌++◌, ◌+◌, ◌*◌, ◌≤◌, length, drop};
+ghost use Rattle.std.specs.Prelude.{◌≡◌, [], ◌∷◌, ◌++◌, ◌+◌, ◌*◌, ◌≤◌, length, drop, None};
 ghost use Rattle.std.proofs.lemmas.List.Edits.{sets};
 ghost use Rattle.cells.specs.Bytes.{run};
 ghost use Rattle.record.specs.Layout.{most_fields};
-ghost use Rattle.record.specs.Contents.{no_member};
 ghost use Rattle.record.specs.Fields.{head_of, id_of, not_star, walk, judge, entries_of};
 ghost use Rattle.record.specs.Read.{entry_width};
 
@@ -99,7 +98,7 @@ pub fn walk(s: &[u8], from: usize) -> Verdict
 // The walk that gives 9, then 10, at each of n fields from a place on; left by label at the first fault.
 pub fn judge(k: Kind, n: usize, s: &[u8], from: usize) -> Verdict
     requires { (from ≤ length s.now) × (n ≤ most_fields) }
-    ensures { result ≡ judge k n no_member from (drop from s.now) }
+    ensures { result ≡ judge k n None from (drop from s.now) }
 {
     let mut at = from;
     let mut id = id_at(s, from);

@@ -11,7 +11,7 @@ use lib.ListN.{length, drop}
 use lib.Seq.{sets, sets-eq}
 use Rattle.cells.specs.Bytes.{pick}
 use Rattle.record.specs.Layout.{most_bytes, most_fields, layout, fixed_width, kind_of}
-use Rattle.record.specs.Contents.{no_member, group_kept}
+use Rattle.record.specs.Contents.{group_kept}
 use Rattle.record.specs.Read.{entry_width}
 use Rattle.record.specs.declared.layout.Kind.{Kind}
 use Rattle.std.specs.Prelude.{Err, None, Ok, Option, Some}
@@ -45,14 +45,14 @@ then_second (Err r) b n e = let z : ◌≡◌ {A = ℕ} 0 1 = cc in absurd (omeg
 then_second (Ok m) b n e = e
 
 -- fields that fit: each content stands inside the lent bytes
-pub fields_inside : (k : Kind) (contents : List ℕ) (before i : ℕ) (es : List Entry) (m : ℕ)
+pub fields_inside : (k : Kind) (contents : List ℕ) (before : Option ℕ) (i : ℕ) (es : List Entry) (m : ℕ)
     → fields_judged k contents before i es ≡ Ok m → all_inside contents es ≡ true
 unfolding fields_judged all_inside
 fields_inside k contents before i [] m h = refl
 fields_inside k contents before i (e ∷ es) m h =
     let a = refuses_false (entry_kept k contents e) _ _ m h in
     let b = refuses_false (group_kept before e.id (next_id es)) _ _ m a.1 in
-    rw (kept_inside contents e k a.0) (fields_inside k contents e.id (i + 1) es m b.1)
+    rw (kept_inside contents e k a.0) (fields_inside k contents (Some e.id) (i + 1) es m b.1)
 
 -- a fixed part that fits is of a kind, as long as that, and without a faulty field
 pub fixed_known : (j : Option Kind) (fixed : List ℕ) (m : ℕ) → fixed_judged j fixed ≡ Ok m
@@ -87,7 +87,7 @@ pub record Fitting (k : Kind) (fixed table : List ℕ) (count : ℕ) (contents o
   pub sound : first_faulty k fixed ≡ length (layout k)
   pub few : count ≤ most_fields
   pub listed : count * entry_width ≤ length table
-  pub kept : (m : ℕ) × (fields_judged k contents no_member 0 (entries count table) ≡ Ok m)
+  pub kept : (m : ℕ) × (fields_judged k contents None 0 (entries count table) ≡ Ok m)
   pub long : length (record_text fixed (optional_of contents (entries count table))) ≡ n
   pub short : n ≤ most_bytes
   pub room : n ≤ length out
@@ -103,8 +103,8 @@ module _ (fixed table : List ℕ) (count : ℕ) (contents out : List ℕ) (n : �
       ap (λ (j : Option Kind). rest_judged j fixed table count contents out) (sym k.1) ∙ then_second (fixed_judged (kind_of fixed) fixed) _ n e in
       let a = refuses_true (ltb most_fields count) _ _ n rest in
       let b = refuses_true (ltb (length table) (count * entry_width)) _ _ n a.1 in
-      let two = then_first (fields_judged k.0 contents no_member 0 (entries count table)) _ n b.1 in
-      let l = length_fits _ out n (then_second (fields_judged k.0 contents no_member 0 (entries count table)) _ n b.1) in (
+      let two = then_first (fields_judged k.0 contents None 0 (entries count table)) _ n b.1 in
+      let l = length_fits _ out n (then_second (fields_judged k.0 contents None 0 (entries count table)) _ n b.1) in (
         k.0,
         record {
           named = k.1;
@@ -121,7 +121,7 @@ module _ (fixed table : List ℕ) (count : ℕ) (contents out : List ℕ) (n : �
 
   -- its contents stand inside the lent bytes
   pub fits_inside : all_inside contents (entries count table) ≡ true
-  fits_inside = let f = fitting in fields_inside f.0 contents no_member 0 (entries count table) f.1.kept.0 f.1.kept.1
+  fits_inside = let f = fitting in fields_inside f.0 contents None 0 (entries count table) f.1.kept.0 f.1.kept.1
 
   -- it is as long as reckoned
   pub fits_width : width_after (length fixed) (entries count table) ≡ n

@@ -5,10 +5,9 @@ use Prim.Native.Nat.{ℕ, ◌*◌, ◌≤◌, ◌<◌}
 use borrow.Author.Tests.{eq-eqb, ne_eqb, lt-ltb, le-ltb}
 use lib.ListN.{length, drop}
 use Rattle.record.specs.Layout.{most_fields, layout, fixed_width, kind_of}
-use Rattle.record.specs.Contents.{no_member}
 use Rattle.record.specs.Read.{entry_width}
 use Rattle.record.specs.declared.layout.Kind.{Kind}
-use Rattle.std.specs.Prelude.{Err, Ok, Some}
+use Rattle.std.specs.Prelude.{Err, Ok, Some, None}
 use Rattle.writing.specs.Write.{◌next◌, first_faulty, fixed_judged, entries, optional_of, fields_judged, record_text, length_judged, rest_judged, write_judged, written_of, outcome, output_after, write}
 use Rattle.writing.specs.declared.answer.Refusal.{Refusal}
 use Rattle.writing.specs.declared.answer.Refusal.TheVariants.{FixedField, TooManyFields, SmallTable}
@@ -40,12 +39,12 @@ module _ (k : Kind) (fixed table : List ℕ) (count : ℕ) (contents out : List 
     table_refused g = rw (le-ltb _ _ h, lt-ltb _ _ g)
 
     module _ (g : count * entry_width ≤ length table) where
-      pub fields_refused : (r : Refusal) → fields_judged k contents no_member 0 (entries count table) ≡ Err r
+      pub fields_refused : (r : Refusal) → fields_judged k contents None 0 (entries count table) ≡ Err r
           → rest_judged (Some k) fixed table count contents out ≡ Err r
       unfolding rest_judged ◌next◌
       fields_refused r e = rw (le-ltb _ _ h, le-ltb _ _ g, e)
 
-      pub fields_fit : (m : ℕ) → fields_judged k contents no_member 0 (entries count table) ≡ Ok m
+      pub fields_fit : (m : ℕ) → fields_judged k contents None 0 (entries count table) ≡ Ok m
           → rest_judged (Some k) fixed table count contents out ≡ length_judged (length (record_text fixed (optional_of contents (entries count table)))) out
       unfolding rest_judged ◌next◌
       fields_fit m e = rw (le-ltb _ _ h, le-ltb _ _ g, e)

@@ -13,7 +13,7 @@ use Rattle.record.specs.Read.{entry_width}
 use Rattle.record.specs.declared.layout.Kind.{Kind}
 use Rattle.writing.specs.Write.{entry_of, entries, next_id, entry_kept, fields_judged}
 use Rattle.writing.specs.declared.answer.Refusal.TheVariants.{Content, Group}
-use Rattle.std.specs.Prelude.{Err, Ok}
+use Rattle.std.specs.Prelude.{Err, Ok, Option, Some}
 use Rattle.writing.specs.declared.entries.Entry.{Entry}
 
 -- the entry that stands at a place of a table
@@ -56,7 +56,7 @@ pub entry_here : (count i : ℕ) (table : List ℕ) → i < count → (e : Entry
 entry_here count i table h e q = rw q (entries_first count i table h)
 
 -- judged as a field: its content cannot stand, its group is broken, or the fields after it are judged
-module _ (k : Kind) (contents : List ℕ) (before i count : ℕ) (table : List ℕ) where
+module _ (k : Kind) (contents : List ℕ) (before : Option ℕ) (i count : ℕ) (table : List ℕ) where
   pub content_refused : i < count → entry_kept k contents (entry_of (drop (i * entry_width) table)) ≡ false
       → fields_judged k contents before i (entries (count - i) (drop (i * entry_width) table)) ≡ Err (Content i)
   unfolding fields_judged
@@ -71,7 +71,7 @@ module _ (k : Kind) (contents : List ℕ) (before i count : ℕ) (table : List �
   pub field_passed : i < count → entry_kept k contents (entry_of (drop (i * entry_width) table)) ≡ true
       → group_kept before (entry_of (drop (i * entry_width) table)).id (next_id (entries (count - (i + 1)) (drop ((i + 1) * entry_width) table))) ≡ true
       → fields_judged k contents before i (entries (count - i) (drop (i * entry_width) table))
-      ≡ fields_judged k contents (entry_of (drop (i * entry_width) table)).id (i + 1) (entries (count - (i + 1)) (drop ((i + 1) * entry_width) table))
+      ≡ fields_judged k contents (Some (entry_of (drop (i * entry_width) table)).id) (i + 1) (entries (count - (i + 1)) (drop ((i + 1) * entry_width) table))
   unfolding fields_judged
   field_passed h a g = rw (entries_first count i table h, a, g)
 

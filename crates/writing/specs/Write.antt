@@ -5,7 +5,7 @@ use Rattle.cells.specs.Bytes.{pick, bytes, all, run}
 use Rattle.signs.specs.Class.{star, allowed, belongs}
 use Rattle.signs.specs.declared.Class.TheVariants.{Allowed}
 use Rattle.record.specs.Layout.{most_bytes, most_fields, layout, fixed_width, kind_of, first_broken}
-use Rattle.record.specs.Contents.{content_kept, no_member, group_kept}
+use Rattle.record.specs.Contents.{content_kept, group_kept}
 use Rattle.record.specs.Fields.{last_id, Optional}
 use Rattle.record.specs.Read.{entry_width}
 use Rattle.record.specs.declared.layout.Field.{Field}
@@ -107,12 +107,12 @@ next_id (e ∷ es) = e.id
 unfoldable pub entry_kept : Kind → List ℕ → Entry → Bool
 entry_kept k contents e = writable contents e && content_kept k e.id (content_in contents e)
 
--- 9 and 10 per field, the first of the entries having index i; before is the ID of the field before it
-unfoldable pub fields_judged : Kind → List ℕ → ℕ → ℕ → List Entry → Verdict
+-- 9 and 10 per field, the first of the entries having index i; before is the ID of the field before it, where there is one
+unfoldable pub fields_judged : Kind → List ℕ → Option ℕ → ℕ → List Entry → Verdict
 fields_judged k contents before i [] = Ok 0
 fields_judged k contents before i (e ∷ es) =
     pick (entry_kept k contents e)
-    (pick (group_kept before e.id (next_id es)) (fields_judged k contents e.id (i + 1) es) (Err (Group i)))
+    (pick (group_kept before e.id (next_id es)) (fields_judged k contents (Some e.id) (i + 1) es) (Err (Group i)))
     (Err (Content i))
 
 -- a field as it is written: a star, four digits of ID, the content
@@ -142,7 +142,7 @@ rest_judged None fixed table count contents out = Err (FixedField 0)
 rest_judged (Some k) fixed table count contents out =
     pick (ltb most_fields count) (Err TooManyFields)
     (pick (ltb (length table) (count * entry_width)) (Err SmallTable)
-    (fields_judged k contents no_member 0 (entries count table)
+    (fields_judged k contents None 0 (entries count table)
     next length_judged (length (record_text fixed (optional_of contents (entries count table)))) out))
 
 unfoldable pub write_judged : List ℕ → List ℕ → ℕ → List ℕ → List ℕ → Verdict

@@ -1,8 +1,7 @@
 -- `writer::judge_rest` meets its contract, stage by stage.
 use mathlib.Core.Path.{◌≡◌, ◌∙◌, sym}
 use Rattle.record.specs.Layout.{kind_of}
-use Rattle.record.specs.Contents.{no_member}
-use Rattle.std.specs.Prelude.{Some}
+use Rattle.std.specs.Prelude.{Some, None}
 use Rattle.writing.specs.Write.{entries, fields_judged, rest_judged}
 use Rattle.writing.specs.Verdicts.{Verdict}
 use Rattle.writing.proofs.Widths.{record_wide, capped_judged}
@@ -29,7 +28,7 @@ returns-in-Err c =
     let known : kind_of c.args.fixed.now ≡ Some c.in-Some.k = sym c.kind_of.ensures ∙ c.in-Some.is in
     let said : (v : Verdict) → c.judge_fields.result ≡ v
     → let a = c.args in
-    fields_judged c.in-Some.k a.contents.now no_member 0 (entries a.count a.table.now) ≡ v = λ v e. sym c.judge_fields.ensures ∙ e in
+    fields_judged c.in-Some.k a.contents.now None 0 (entries a.count a.table.now) ≡ v = λ v e. sym c.judge_fields.ensures ∙ e in
     let e = c in
     rw (known) (sym (fields_refused _ _ _ _ _ _ e.if-count-gt-MOST_FIELDS.false e.if-table-count.false _ (said _ c.in-Err.is)))
 
@@ -38,7 +37,7 @@ returns-in-Ok c =
     let known : kind_of c.args.fixed.now ≡ Some c.in-Some.k = sym c.kind_of.ensures ∙ c.in-Some.is in
     let said : (v : Verdict) → c.judge_fields.result ≡ v
     → let a = c.args in
-    fields_judged c.in-Some.k a.contents.now no_member 0 (entries a.count a.table.now) ≡ v = λ v e. sym c.judge_fields.ensures ∙ e in
+    fields_judged c.in-Some.k a.contents.now None 0 (entries a.count a.table.now) ≡ v = λ v e. sym c.judge_fields.ensures ∙ e in
     let e = c in
     let a = e.args in
     let f = said _ c.in-Ok.is in

@@ -8,7 +8,7 @@ returns-in-Unsound c = rw c.in-Unsound.is
 
 pub returns-in-Unread : goal.returns-in-Unread
 unfolding refused_number
-returns-in-Unread c = rw (c.in-Unread.is, c.refusal_number.ensures)
+returns-in-Unread c = rw (c.in-Unread.is, c.from.ensures)
 
 pub returns-in-NothingToBook : goal.returns-in-NothingToBook
 unfolding refused_number

@@ -4,7 +4,7 @@ use Rattle.book.proofs.answer.refused_place.Goals as goal
 
 pub returns-in-Unread : goal.returns-in-Unread
 unfolding refused_place
-returns-in-Unread c = rw (c.in-Unread.is, c.refusal_place.ensures)
+returns-in-Unread c = rw (c.in-Unread.is, c.place.ensures)
 
 pub returns-in-Unsound : goal.returns-in-Unsound
 unfolding refused_place

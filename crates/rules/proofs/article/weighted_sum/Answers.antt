@@ -1,7 +1,6 @@
 -- `rules::article::weighted_sum` meets its contract. The invariant: the sum so far and what is left make the whole, and the sum is small for each term passed.
 use mathlib.Core.Path.{◌≡◌}
 use Prim.Native.Nat.{◌*◌, ◌≤◌}
-use native.Mathlib.Nat.{zero-add}
 use native.Mathlib.Omega.{arith}
 use borrow.Author.Tests.{leb-true}
 use lib.ListN.{length, get_or}
@@ -9,14 +8,7 @@ use lib.Seq.{drop-length}
 use Rattle.rules.specs.Article.{low}
 use Rattle.signs.proofs.Runs.{all_at}
 use Rattle.rules.proofs.Sums.{term, none_left, small}
-use borrow.Author.Rules.{rules}
 use Rattle.rules.proofs.article.weighted_sum.Goals as goal
-
-pub loop-i-init : goal.loop-i-init
-loop-i-init c = (search rules, search rules, rw zero-add)
-
-pub offset_bounds-weights-i : goal.offset_bounds-weights-i
-offset_bounds-weights-i c = omega arith
 
 pub overflow_mul-sum : goal.overflow_mul-sum
 overflow_mul-sum c =
@@ -40,12 +32,12 @@ loop-i-preserved c =
     let a = c.args in
     let l = c.loop-i in
     let t = term a.weights.now a.s.now l.i (omega arith) (omega arith) in
-    (search rules, omega (arith, bound), rw c.check_value.ensures.0 (omega (arith, t, l.invariant.2)))
+    record { small = omega (arith, bound); rest = rw c.check_value.ensures.0 (omega (arith, t, l.invariant.rest)) }
 
 pub returns : goal.returns
 returns c =
     let a = c.args in
     let l = c.loop-i in
     let e : l.i ≡ length a.s.now = omega arith in
-    let z = rw (e, drop-length, none_left) at l.invariant.2 in
+    let z = rw (e, drop-length, none_left) at l.invariant.rest in
     omega (arith, z)

@@ -1,5 +1,0 @@
--- `rules::amount::discount_of` meets its contract: the number of its digits.
-use Rattle.rules.proofs.amount.discount_of.Goals as goal
-
-pub returns : goal.returns
-returns c = rw c.number_of.ensures
