@@ -49,11 +49,20 @@ pub const SCHOOL_TELLS: usize = 0;
 
 pub const REFERENCE_TELLS: usize = 2;
 
-// Whether the so many bytes at a place are a field. Arrays are compared eight bytes at a time with no call, where slices that begin alike cost one.
-#[tactic(auto, using(crate::proofs::Fields::whole_field, crate::proofs::Fields::other_width, cells::proofs::Lists::same_is))]
+// Whether eight bytes at a place are those of a field at another; arrays of eight are compared as numbers.
+#[tactic(auto, using(cells::proofs::Lists::same_is))]
+fn eight_are(s: &[u8], at: usize, field: &[u8], from: usize) -> bool
+    requires { (at + 8 ≤ length s.now) × (from + 8 ≤ length field.now) }
+    ensures { result ≡ same (slice at (at + 8) s.now) (slice from (from + 8) field.now) }
+{
+    bytes_at::<8>(s, at) == bytes_at::<8>(field, from)
+}
+
+// Whether the bytes at a place, eight to sixteen of them, are a field: its first eight bytes and its last eight. Where a slice begins as the field does, to compare the two with `==` costs a call.
+#[tactic(auto, using(crate::proofs::Fields::both_eights, crate::proofs::Fields::other_width))]
 pub fn field_is<const N: usize>(s: &[u8], at: usize, field: &[u8]) -> bool
-    requires { at + N ≤ length s.now }
+    requires { (8 ≤ N) × (N ≤ 16) × (at + N ≤ length s.now) }
     ensures { result ≡ same (slice at (at + N) s.now) field.now }
 {
-    field.len() == N && bytes_at::<N>(s, at) == bytes_at::<N>(field, 0)
+    field.len() == N && eight_are(s, at, field, 0) && eight_are(s, at + (N - 8), field, N - 8)
 }
