@@ -1,3 +1,3 @@
 pub mod Answers
-pub mod Letters
+pub mod Digits
 pub mod Messages

@@ -1,24 +1,18 @@
 // The desk program: books the records on standard input into rooms for 256 lines and 512 slips, and prints one line each.
 #![tactic(auto)]
 
-ghost use Rattle.std.specs.Prelude.{◌≡◌, ◌≤◌};
-ghost use Rattle.entry.specs.Report.{most_message};
-ghost use Rattle.desk.specs.Printed.{kind_letter, is_message, message_digits};
+ghost use Rattle.std.specs.Prelude.{◌≡◌, Some};
+ghost use Rattle.desk.specs.Printed.{kind_letter, is_message, message_field};
 
-use cells::part;
-use entry::line::Figures;
 use entry::report::MOST_MESSAGE;
-use feed::{Held, ended_length, ends, hold, left_length, start};
+use feed::Feed;
 use own::book_own;
+use record::answer::Refusal;
+use std::fmt;
 use std::io;
 use std::io::{Read, Write};
 
 const UNKNOWN: u8 = b'?';
-
-// The answers to an over-long record and to one of no known kind.
-const OVER_LONG: u64 = 1;
-
-const OF_NO_KIND: u64 = 2;
 
 // 256 lines of 66 bytes, 512 slips of 50.
 const LINES_ROOM: usize = 16896;
@@ -28,128 +22,100 @@ const SLIPS_ROOM: usize = 25600;
 // The bytes that one read takes at most.
 const MOST_READ: usize = 65536;
 
-// What came since the last CR LF stands in `buffer` as `held` says. `number` records came before it, and the rooms hold the book that they left.
-#[derive(Drop)]
-struct Desk {
-    buffer: [u8; 1025],
-    held: Held,
-    number: u64,
+// The message of a line's last report, as it is printed of a record.
+#[derive(Clone, Copy, PartialEq, Eq, Debug)]
+struct LastMessage {
+    answer: u64,
+    message: u64,
+}
+
+// The book that the records so far left in its rooms, and how many records they were.
+#[derive(PartialEq, Eq, Debug, Drop)]
+struct Book {
+    records: u64,
     lines: [u8; LINES_ROOM],
     slips: [u8; SLIPS_ROOM],
     used: [usize; 2],
 }
 
+#[derive(PartialEq, Eq, Debug, Drop)]
+struct Desk {
+    feed: Feed,
+    book: Book,
+}
+
 // The first byte of a record, but `?` where the answer says that it is over-long or of no known kind.
-fn kind_letter(answer: u64, s: &[u8]) -> u8
-    ensures { result ≡ kind_letter answer s.now }
+#[tactic(auto, unfolding(crate::specs::Printed::kind_letter, record::specs::Answers::refusal_number))]
+fn kind_letter(answer: u64, record: &[u8]) -> u8
+    ensures { result ≡ kind_letter answer «record».now }
 {
-    if answer == OVER_LONG {
+    if answer == u64::from(Refusal::TooLong) || answer == u64::from(Refusal::UnknownKind) {
         return UNKNOWN;
     }
-    if answer == OF_NO_KIND {
-        return UNKNOWN;
-    }
-    if s.len() == 0 {
-        return UNKNOWN;
-    }
-    s[0]
-}
-
-fn text<W: Write>(out: &mut W, s: &[u8]) -> io::Result<()> {
-    out.write_all(s)
-}
-
-fn number<W: Write>(out: &mut W, n: u64) -> io::Result<()> {
-    write!(out, "{n}")
-}
-
-// A number with a blank before it.
-fn next<W: Write>(out: &mut W, n: u64) -> io::Result<()> {
-    text(out, b" ")?;
-    number(out, n)
-}
-
-fn letter<W: Write>(out: &mut W, b: u8) -> io::Result<()> {
-    let s = [b' ', b];
-    text(out, &s)
+    record.first().copied().unwrap_or(UNKNOWN)
 }
 
 // Whether there is a message to print: the record was booked, and the line's last report has one.
+#[tactic(auto, unfolding(crate::specs::Printed::is_message))]
 fn is_message(answer: u64, message: u64) -> bool
     ensures { result ≡ is_message answer message }
 {
     (answer == 0) & (message <= MOST_MESSAGE)
 }
 
-// The three digits of a message.
-fn message_digits(n: u64) -> [u8; 3]
-    requires { n ≤ most_message }
-    ensures { result ≡ message_digits n }
-{
-    let hundreds = (n / 100) as u8;
-    let tens = (n / 10 % 10) as u8;
-    let ones = (n % 10) as u8;
-    [b'0' + hundreds, b'0' + tens, b'0' + ones]
-}
+// Three digits, or a hyphen where there is none.
+impl fmt::Display for LastMessage {
+    ghost output = { λ m. Some (message_field m.answer m.message) };
 
-// The last message as three digits, or a hyphen where there is none.
-fn show_message<W: Write>(out: &mut W, answer: u64, message: u64) -> io::Result<()> {
-    text(out, b" ")?;
-    if is_message(answer, message) {
-        return text(out, &message_digits(message));
+    #[tactic(auto, unfolding(crate::specs::Printed::message_field, crate::specs::Printed::is_message), using(crate::proofs::Digits::three_digits))]
+    fn fmt<W: fmt::Write>(&self, f: &mut fmt::Formatter<W>) -> fmt::Result {
+        if is_message(self.answer, self.message) {
+            return write!(f, "{:03}", self.message);
+        }
+        f.write_str("-")
     }
-    text(out, b"-")
 }
 
-fn show_figures<W: Write>(out: &mut W, f: Figures) -> io::Result<()> {
-    next(out, f.ordered.0)?;
-    next(out, f.filled.0)?;
-    next(out, f.still_open.0)?;
-    next(out, f.let_go.0)?;
-    next(out, f.extra.0)
-}
-
-// One more, as long as there is a number.
-fn following(n: u64) -> u64 {
-    if n < u64::MAX {
-        return n + 1;
-    }
-    n
-}
-
-impl Desk {
-    // An empty book, and nothing read.
-    fn new() -> Desk {
-        Desk {
-            buffer: [0; 1025],
-            held: start(),
-            number: 0,
+impl Book {
+    fn new() -> Book {
+        Book {
+            records: 0,
             lines: [0; LINES_ROOM],
             slips: [0; SLIPS_ROOM],
             used: [0; 2],
         }
     }
 
-    // Books the first `length` bytes of the buffer as the next record and prints its line.
-    fn answer<W: Write>(&mut self, out: &mut W, length: usize) -> io::Result<()> {
-        self.number = following(self.number);
-        let s = part(&self.buffer, 0, length);
-        let booked = book_own(s, &mut self.lines, &mut self.slips, &mut self.used);
-        number(out, self.number)?;
-        letter(out, kind_letter(booked.answer, s))?;
-        next(out, booked.answer)?;
-        show_figures(out, booked.figures)?;
-        show_message(out, booked.answer, booked.reported.message)?;
-        text(out, b"\n")
+    // Books the next record and prints its line. Its letter may be no text, so it is written as the byte that it is.
+    fn answer<W: Write>(&mut self, out: &mut W, record: &[u8]) -> io::Result<()> {
+        self.records = self.records.saturating_add(1);
+        let booked = book_own(record, &mut self.lines, &mut self.slips, &mut self.used);
+        let message = LastMessage {
+            answer: booked.answer,
+            message: booked.reported.message,
+        };
+        write!(out, "{} ", self.records)?;
+        out.write_all(&[kind_letter(booked.answer, record)])?;
+        writeln!(out, " {} {} {message}", booked.answer, booked.figures)
+    }
+}
+
+impl Desk {
+    // An empty book, and nothing read.
+    fn new() -> Desk {
+        Desk {
+            feed: Feed::new(),
+            book: Book::new(),
+        }
     }
 
     // A byte ends the record that is held, or is held itself.
     fn take_byte<W: Write>(&mut self, out: &mut W, b: u8) -> io::Result<()> {
-        if ends(self.held, b) {
-            self.answer(out, ended_length(self.held))?;
-            self.held = start();
+        if self.feed.held.ends(b) {
+            self.book.answer(out, self.feed.ended())?;
+            self.feed.restart();
         } else {
-            self.held = hold(self.held, &mut self.buffer, b);
+            self.feed.hold(b);
         }
         Ok(())
     }
@@ -182,9 +148,9 @@ impl Desk {
 
     // The bytes after the last CR LF, if any, are one more record.
     fn take_left<W: Write>(&mut self, out: &mut W) -> io::Result<()> {
-        let n = left_length(self.held);
-        if n > 0 {
-            self.answer(out, n)?;
+        let left = self.feed.left();
+        if !left.is_empty() {
+            self.book.answer(out, left)?;
         }
         out.flush()
     }

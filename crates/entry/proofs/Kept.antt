@@ -1,7 +1,7 @@
 -- What a line or a slip written leaves to read: itself as it was written, and every other as it was.
 use mathlib.Core.Path.{◌≡◌, refl, ap, ◌∙◌, sym}
 use mathlib.Core.Bool.{true}
-use mathlib.Core.List.{List, [], ◌++◌, append-nil}
+use mathlib.Core.List.{List, [], ◌∷◌, ◌++◌, append-nil}
 use mathlib.Core.Logic.{◌≢◌}
 use Prim.Native.Nat.{ℕ, ◌+◌, ◌*◌, ◌≤◌, ◌<◌}
 use native.Mathlib.Nat.{add-zero, add_assoc}
@@ -16,7 +16,9 @@ use Rattle.cells.proofs.Within.{part_within, front_within}
 use Rattle.cells.proofs.Stores.{sets_before, sets_after, sets_in, sets_part, sets_aside, le_ext, le_in, part_ext, number_ext, front_ext}
 use borrow.Author.Tests.{ne_eqb}
 use Rattle.cells.specs.Bytes.{all, same}
-use Rattle.signs.specs.Class.{all_of, belongs}
+use Rattle.signs.specs.Class.{all_of, belongs, of_class}
+use Rattle.signs.specs.declared.Class.TheVariants.{Blank, Zero}
+use Rattle.std.specs.Prelude.{replicate}
 use Rattle.rules.specs.Day.{day_width, is_day, dated}
 use Rattle.rules.specs.declared.expected.Expected.TheVariants.{Blanks}
 use Rattle.rules.specs.Values.{copies, expected_of}
@@ -254,6 +256,25 @@ ordered_back ls i n h a =
 pub blank_date_law : expected_of blank_date ≡ Blanks
 unfolding expected_of dated is_day all_of all belongs
 blank_date_law = refl
+
+-- all bytes are zeros, or blanks, just where the list is that of as many
+all_zeros : (s : List ℕ) → all_of Zero s ≡ same s (replicate (length s) 48)
+unfolding all_of all belongs same
+all_zeros [] = refl
+all_zeros (x ∷ xs) = rw (← all_zeros xs) refl
+
+all_blanks : (s : List ℕ) → all_of Blank s ≡ same s (replicate (length s) 32)
+unfolding all_of all belongs same
+all_blanks [] = refl
+all_blanks (x ∷ xs) = rw (← all_blanks xs) refl
+
+pub zero_dated : (s : List ℕ) → length s ≡ day_width → of_class Zero day_width day_width s ≡ same s (replicate day_width 48)
+unfolding of_class
+zero_dated s e = rw (all_zeros s, e) refl
+
+pub blanks_dated : (s : List ℕ) → length s ≡ day_width → of_class Blank day_width day_width s ≡ same s blank_date
+unfolding of_class
+blanks_dated s e = rw (all_blanks s, e) refl
 
 pub blank_dated : (date : List ℕ) → same date blank_date ≡ true → expected_of date ≡ Blanks
 blank_dated date e = rw (same_true date blank_date e) blank_date_law

@@ -1,4 +1,10 @@
-// The fields of keys and articles: how wide they are, and where they stand in an entry. Both keys begin with two addresses, each with its qualifier.
+// The fields of keys and articles: how wide they are, where they stand in an entry, and whether one stands at a place. Both keys begin with two addresses, each with its qualifier.
+ghost use Rattle.std.specs.Prelude.{◌≡◌, ◌+◌, ◌≤◌, length};
+ghost use Rattle.std.proofs.Math.Seq.{slice};
+ghost use Rattle.cells.specs.Bytes.{same};
+
+use cells::bytes_at;
+
 pub const ADDRESS_WIDTH: usize = 10;
 
 pub const QUALIFIER_WIDTH: usize = 2;
@@ -22,6 +28,9 @@ pub const ARTICLE_AT: usize = 34;
 
 pub const ARTICLE_QUALIFIER_AT: usize = 47;
 
+// The article and its qualifier.
+pub const ARTICLE_WIDTH: usize = 15;
+
 // A slip's with the date, the slip number and the position.
 pub const DATE_AT: usize = 24;
 
@@ -39,3 +48,21 @@ pub const REFERENCE_FIELD: usize = 4;
 pub const SCHOOL_TELLS: usize = 0;
 
 pub const REFERENCE_TELLS: usize = 2;
+
+// Whether eight bytes at a place are those of a field at another; arrays of eight are compared as numbers.
+#[tactic(auto, using(cells::proofs::Lists::same_is))]
+fn eight_are(s: &[u8], at: usize, field: &[u8], from: usize) -> bool
+    requires { (at + 8 ≤ length s.now) × (from + 8 ≤ length field.now) }
+    ensures { result ≡ same (slice at (at + 8) s.now) (slice from (from + 8) field.now) }
+{
+    bytes_at::<8>(s, at) == bytes_at::<8>(field, from)
+}
+
+// Whether the bytes at a place, eight to sixteen of them, are a field: its first eight bytes and its last eight. Where a slice begins as the field does, to compare the two with `==` costs a call.
+#[tactic(auto, using(crate::proofs::Fields::both_eights, crate::proofs::Fields::other_width))]
+pub fn field_is<const N: usize>(s: &[u8], at: usize, field: &[u8]) -> bool
+    requires { (8 ≤ N) × (N ≤ 16) × (at + N ≤ length s.now) }
+    ensures { result ≡ same (slice at (at + N) s.now) field.now }
+{
+    field.len() == N && eight_are(s, at, field, 0) && eight_are(s, at + (N - 8), field, N - 8)
+}

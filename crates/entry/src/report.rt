@@ -2,12 +2,12 @@
 ghost use Rattle.std.specs.Prelude.{◌≡◌};
 ghost use Rattle.entry.specs.Report.{blank_date, message_of, message_number, report_told, report_sound};
 ghost use Rattle.cells.specs.Bytes.{same};
+ghost use Rattle.rules.specs.Rule.{expected};
 ghost use Rattle.rules.specs.Values.{expected_of};
 
-use cells::same;
 use rules::day::Day;
 use rules::expected::{Expected, expected_of};
-use rules::rule::is_expected;
+use rules::rule::is_day;
 
 // The last message: no report so far, a report whose number is not known any more, or its number; 000 is a number like any other.
 #[derive(Clone, Copy, PartialEq, Eq, Debug)]
@@ -33,6 +33,8 @@ pub const MOST_MARK: u8 = 2;
 
 // The expected date where there is no report, or none with a number.
 pub const BLANK_DATE: [u8; Day::WIDTH] = *b"        ";
+
+const ZERO_DATE: [u8; Day::WIDTH] = *b"00000000";
 
 // The form of an expected date, as it is told.
 const A_DAY: u64 = 1;
@@ -104,12 +106,28 @@ pub fn report_told(m: Message, e: Expected) -> Reported
     }
 }
 
+// Whether an expected date is eight blanks; arrays are compared eight bytes at a time.
+#[tactic(auto, using(cells::proofs::Lists::same_is))]
+fn is_blank_date(date: [u8; Day::WIDTH]) -> bool
+    ensures { result ≡ same date blank_date }
+{
+    date == BLANK_DATE
+}
+
+// Whether an expected date has one of its three forms.
+#[tactic(auto, unfolding(rules::specs::Rule::expected), using(crate::proofs::Kept::zero_dated, crate::proofs::Kept::blanks_dated, cells::proofs::Lists::same_is))]
+fn is_date_sound(date: [u8; Day::WIDTH]) -> bool
+    ensures { result ≡ expected date }
+{
+    is_day(&date) || date == ZERO_DATE || is_blank_date(date)
+}
+
 // Which of its three forms an expected date has; eight blanks are told first, since most lines have them.
 #[tactic(auto, using(crate::proofs::Kept::blank_dated))]
 pub fn expected_date(date: [u8; Day::WIDTH]) -> Expected
     ensures { result ≡ expected_of date }
 {
-    if same(&date, &BLANK_DATE) {
+    if is_blank_date(date) {
         return Expected::Blanks;
     }
     expected_of(&date)
@@ -124,13 +142,13 @@ pub fn is_report_sound(mark: u8, message: u64, date: [u8; Day::WIDTH]) -> bool
         if mark != NO_MARK {
             return false;
         }
-        return same(&date, &BLANK_DATE);
+        return is_blank_date(date);
     }
     if !((LEAST_MARK <= mark) & (mark <= MOST_MARK)) {
         return false;
     }
     if message == MESSAGE_UNKNOWN {
-        return same(&date, &BLANK_DATE);
+        return is_blank_date(date);
     }
-    (message <= MOST_MESSAGE) & is_expected(&date)
+    (message <= MOST_MESSAGE) & is_date_sound(date)
 }

@@ -1,15 +1,17 @@
 // An entry of a saved book, judged by its body.
 #![tactic(auto)]
 
-ghost use Rattle.std.specs.Prelude.{◌≡◌, [], ◌∷◌, ◌+◌, ◌*◌, ◌≤◌, eqb, length};
+ghost use Rattle.std.specs.Prelude.{◌≡◌, [], ◌∷◌, eqb, length};
+ghost use Rattle.signs.specs.Class.{all_of};
+ghost use Rattle.signs.specs.declared.Class.TheVariants.{Allowed};
 ghost use Rattle.save.specs.Entries.{reference_at, slip_number_at, line_fields, goods_fields, fields_kept, report_kept, line_kept, parties_agree, slip_kept};
-ghost use Rattle.save.specs.Form.{line_body_width, front_of, saved_line_width, slips_at};
-ghost use Rattle.save.specs.Saved.{slip_body_width, body_in, line_in};
+ghost use Rattle.save.specs.Form.{front_of};
+ghost use Rattle.save.specs.Saved.{slip_body_width, line_in};
 ghost use Rattle.record.specs.Layout.{first_broken};
 ghost use Rattle.book.specs.Booking.{slip_fields};
 
 use cells::little::get;
-use cells::{part, same};
+use cells::{bytes_at, part, same};
 use entry::key::{
     ARTICLE_AT, ARTICLE_QUALIFIER_AT, DATE_AT, FIRST_QUALIFIER_AT, PARTIES_WIDTH, POSITION_AT,
     REFERENCE_AT, SECOND_PARTY_AT, SECOND_QUALIFIER_AT, SLIP_NUMBER_AT,
@@ -17,19 +19,25 @@ use entry::key::{
 use entry::report::{MOST_MARK, is_report_sound};
 use rules::article::is_article;
 use rules::rule::{Texts, is_day, is_one_of};
-use save::form::{FRONT_WIDTH, Form, KIND_BYTE, body_width, line_width};
+use save::form::Form;
+use save::lines::{LineBody, Lines};
 use signs::{Class, all_of, allowed_run, is_named, is_padded, of_class};
 use stored::{
     EXPECTED_AT, MARK_AT, MESSAGE_AT, MOST_COPIES, ORDERED_AT, SLIP_COPIES_AT, SLIP_KEY_WIDTH,
-    SLIP_WIDTH,
 };
-
-// A byte of kind and a body, which is a slip's entry in the book.
-pub const SAVED_SLIP_WIDTH: usize = KIND_BYTE + SLIP_WIDTH;
 
 const POSITION_WIDTH: usize = 4;
 
+// Whether all bytes are allowed.
+#[tactic(auto, unfolding(signs::specs::Class::all_of), using(signs::proofs::Runs::all_run))]
+fn are_allowed(s: &[u8]) -> bool
+    ensures { result ≡ all_of Allowed s.now }
+{
+    allowed_run(s) == s.len()
+}
+
 // Whether a key begins with two addresses and their qualifiers.
+#[tactic(auto, using(save::proofs::Keys::parties_judged))]
 fn are_parties(key: &[u8]) -> bool
     ensures { result ≡ eqb (first_broken (goods_fields (1 ∷ 2 ∷ 3 ∷ 4 ∷ [])) key.now) 4 }
 {
@@ -44,10 +52,11 @@ fn are_parties(key: &[u8]) -> bool
 }
 
 // Whether what a line is named by keeps the rules: its parties, its reference, which is not blank, and its article with its qualifier.
+#[tactic(auto, using(save::proofs::Keys::line_judged, save::proofs::Keys::parties_judged))]
 fn is_line_named(named: &[u8]) -> bool
     ensures { result ≡ fields_kept line_fields reference_at named.now }
 {
-    if allowed_run(named) != named.len() {
+    if !are_allowed(named) {
         return false;
     }
     if !are_parties(named) {
@@ -62,10 +71,11 @@ fn is_line_named(named: &[u8]) -> bool
 }
 
 // Whether a slip's key keeps the rules: its parties, its date, its slip number, which is not blank, and its position.
+#[tactic(auto, using(save::proofs::Keys::slip_judged_law, save::proofs::Keys::parties_judged))]
 fn is_slip_key(key: &[u8]) -> bool
     ensures { result ≡ fields_kept slip_fields slip_number_at key.now }
 {
-    if allowed_run(key) != key.len() {
+    if !are_allowed(key) {
         return false;
     }
     if !are_parties(key) {
@@ -81,36 +91,38 @@ fn is_slip_key(key: &[u8]) -> bool
 }
 
 // Whether mark, message and expected date of a line go together; in the old form there is the mark alone.
-fn is_report_kept(form: Form, body: &[u8]) -> bool
-    requires { length body.now ≡ line_body_width form }
-    ensures { result ≡ report_kept (front_of form body.now) }
+#[tactic(auto, unfolding(save::specs::Entries::report_kept, save::specs::Form::front_of, save::specs::Form::line_body_width), using(save::proofs::Fronts::old_report))]
+fn is_report_kept(line: LineBody) -> bool
+    ensures { result ≡ report_kept (front_of line.entry.form line.entry.bytes.now) }
 {
+    let body = line.bytes;
     let mark = body[MARK_AT];
-    match form {
+    match line.form {
         Form::Old => mark <= MOST_MARK,
         Form::New => {
             is_report_sound(
                 mark,
                 get::<2>(body, MESSAGE_AT),
-                part(body, EXPECTED_AT, FRONT_WIDTH),
+                bytes_at(body, EXPECTED_AT),
             )
         }
     }
 }
 
 // Whether a line of a save keeps the rules.
-pub fn is_line_kept(form: Form, body: &[u8]) -> bool
-    requires { length body.now ≡ line_body_width form }
-    ensures { result ≡ line_kept (front_of form body.now) }
+#[tactic(auto, unfolding(save::specs::Entries::line_kept), using(save::proofs::Fronts::width_least, save::proofs::Fronts::front_named, save::proofs::Fronts::front_ordered))]
+pub fn is_line_kept(line: LineBody) -> bool
+    ensures { result ≡ line_kept (front_of line.entry.form line.entry.bytes.now) }
 {
-    if !is_line_named(part(body, 0, ORDERED_AT)) {
+    if !is_line_named(part(line.bytes, 0, ORDERED_AT)) {
         return false;
     }
-    let ordered = get::<2>(body, ORDERED_AT);
-    ((1 <= ordered) & (ordered <= MOST_COPIES)) & is_report_kept(form, body)
+    let ordered = get::<2>(line.bytes, ORDERED_AT);
+    ((1 <= ordered) & (ordered <= MOST_COPIES)) & is_report_kept(line)
 }
 
 // Whether a slip has the school and the supplier of a line.
+#[tactic(auto, unfolding(save::specs::Entries::parties_agree))]
 fn do_parties_agree(slip: &[u8], line: &[u8]) -> bool
     ensures { result ≡ parties_agree slip.now line.now }
 {
@@ -123,31 +135,22 @@ fn do_parties_agree(slip: &[u8], line: &[u8]) -> bool
     )
 }
 
-// The body of a line in a save of a form.
-pub fn body_in(s: &[u8], form: Form, i: usize) -> &[u8]
-    requires { saved_line_width form * i + saved_line_width form ≤ length s.now }
-    ensures { result.now ≡ body_in form s.now i }
+// Whether a slip of a save keeps the rules, by the lines of it.
+#[tactic(auto, unfolding(save::specs::Entries::slip_kept, save::specs::Entries::slip_copies, save::specs::Entries::line_index, save::specs::Saved::line_in), using(save::proofs::Fronts::front_parties))]
+pub fn is_slip_kept(lines: Lines, slip: &[u8]) -> bool
+    requires { length slip.now ≡ slip_body_width }
+    ensures { result ≡ slip_kept lines.entry.count (line_in lines.entry.form lines.entry.bytes.now) slip.now }
 {
-    let at = line_width(form) * i + KIND_BYTE;
-    let end = at + body_width(form);
-    &s[at..end]
-}
-
-// Whether a slip of a save of n lines keeps the rules.
-pub fn is_slip_kept(s: &[u8], form: Form, n: usize, body: &[u8]) -> bool
-    requires { (slips_at form n ≤ length s.now) × (length body.now ≡ slip_body_width) }
-    ensures { result ≡ slip_kept n (line_in form s.now) body.now }
-{
-    if !is_slip_key(part(body, 0, SLIP_KEY_WIDTH)) {
+    if !is_slip_key(part(slip, 0, SLIP_KEY_WIDTH)) {
         return false;
     }
-    let copies = get::<2>(body, SLIP_COPIES_AT);
+    let copies = get::<2>(slip, SLIP_COPIES_AT);
     if !((1 <= copies) & (copies <= MOST_COPIES)) {
         return false;
     }
-    let i = get::<2>(body, SLIP_KEY_WIDTH) as usize;
-    if n <= i {
+    let i = get::<2>(slip, SLIP_KEY_WIDTH) as usize;
+    if lines.count <= i {
         return false;
     }
-    do_parties_agree(body, body_in(s, form, i))
+    do_parties_agree(slip, lines.body(i).bytes)
 }

@@ -1,37 +1,20 @@
 -- Bytes in front of an array of zeros.
 use mathlib.Core.Path.{◌≡◌, ◌∙◌}
-use mathlib.Core.List.{List, append-nil}
-use Prim.Native.Nat.{ℕ, zero, suc, ◌-◌, ◌≤◌}
-use native.Mathlib.Nat.{zero-add}
+use mathlib.Core.List.{List, ◌++◌, append-nil}
+use Prim.Native.Nat.{ℕ, ◌-◌, ◌≤◌, min}
 use native.Mathlib.Omega.{arith}
+use Rattle.std.proofs.lemmas.List.{take_min, drop-replicate}
 use lib.ListN.{length, take, drop, replicate, length-take, length-append, length-replicate}
-use lib.Seq.{slice, sets, sets-eq, take_all}
+use lib.Seq.{take_all}
 use Rattle.parts.specs.Part.{fitted}
 
--- no more bytes than there is room for
-pub fits : (room : ℕ) (s : List ℕ) {p : List ℕ} → p ≡ slice 0 room s → length p ≤ room
-fits room s e = rw e (rw length-take (omega arith))
-
--- zeros less the first n are as many fewer
-fewer : (n room : ℕ) → drop {A = ℕ} n (replicate room 0) ≡ replicate (room - n) 0
-fewer zero room =
-    let e : room - 0 ≡ room = omega arith in
-    rw e
-fewer (suc n) zero =
-    let e : 0 - suc n ≡ 0 = omega arith in
-    rw e
-fewer (suc n) (suc room) =
-    let e : suc room - suc n ≡ room - n = omega arith in
-    rw e (fewer n room)
-
--- stored over an array of zeros, they have zeros behind them
-pub fills : (room : ℕ) (s : List ℕ) → sets (replicate room 0) 0 (slice 0 room s) ≡ fitted room s
+-- as many as there is room for, over an array of zeros
+pub fitted_over : (room : ℕ) (s : List ℕ) → take (min (length s) room) s ++ drop (min (length s) room) (replicate room 0) ≡ fitted room s
 unfolding fitted
-fills room s =
-    let l = length-take room s in
-    let k : room - length (take room s) ≡ room - length s = omega arith in
-    sets-eq (take room s) (replicate room 0) 0 (rw length-replicate (omega arith))
-    ∙ rw (zero-add, fewer (length (take room s)) room, k)
+fitted_over room s =
+    let m : min (length s) room ≡ min room (length s) = omega arith in
+    let k : room - min room (length s) ≡ room - length s = omega arith in
+    rw (m, take_min, drop-replicate, k)
 
 -- bytes that have all the room are themselves
 pub fitted_whole : (room : ℕ) (s : List ℕ) → length s ≡ room → fitted room s ≡ s

@@ -1,4 +1,3 @@
-pub mod Standings
 pub mod Told
 pub mod Agree
 pub mod Formed

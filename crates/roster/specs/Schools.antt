@@ -1,11 +1,13 @@
 -- The roster as a list of schools, what is told of an account (RULES 6.5, 8), and the bytes of a school.
-use Rattle.std.specs.Prelude.{ℕ, ◌<◌, ◌^◌, ◌≡◌, Bool, ◌&&◌, List, [], ◌∷◌, ◌++◌, leb, ltb, length, get_or, None, Option, Some}
+use Rattle.std.specs.Prelude.{ℕ, ◌<◌, ◌^◌, ◌≡◌, Bool, ◌&&◌, List, [], ◌∷◌, ◌++◌, leb, length, get_or, None, Option, Some, Result, Ok, Err}
 use Rattle.cells.specs.Bytes.{pick, same}
 use Rattle.cells.specs.Little.{le_bytes}
 use Rattle.cells.specs.Search.{first_from}
 use Rattle.roster.specs.Roster.{address_width, qualifier_width, ceiling_width, most_schools}
 use Rattle.roster.specs.declared.schools.School.{School}
 use Rattle.roster.specs.declared.schools.AccountTold.{AccountTold}
+use Rattle.roster.specs.declared.schools.Refused.{Refused}
+use Rattle.roster.specs.declared.schools.Refused.TheVariants.{WrongRoom, NotOnRoster}
 
 -- a school with nothing in it, which stands past the last
 abbrev pub no_school : School
@@ -21,11 +23,6 @@ is_account schools address qualifier i = is_of (get_or schools i no_school) addr
 -- the first school with an account
 unfoldable pub find_school : List School → List ℕ → List ℕ → Option ℕ
 find_school schools address qualifier = first_from (is_account schools address qualifier) (length schools) 0
-
--- what is found of n places, as one number: the place, or n where there is none
-unfoldable pub place_in : ℕ → Option ℕ → ℕ
-place_in n None = n
-place_in n (Some i) = i
 
 -- the ceiling of the school with an index, 0 past the last
 unfoldable pub ceiling_of : List School → ℕ → ℕ
@@ -51,9 +48,24 @@ told_of None = not_told 24
 unfoldable pub account_told : List School → List ℕ → List ℕ → AccountTold
 account_told schools address qualifier = pick (leb (length schools) most_schools) (told_of (standing_of schools address qualifier)) (not_told 20)
 
--- the same by the number of schools, the place that was found among them, and the ceiling there
-unfoldable pub told_at : ℕ → ℕ → ℕ → AccountTold
-told_at n i ceiling = pick (leb n most_schools) (pick (ltb i n) (told_of (Some ceiling)) (told_of None)) (not_told 20)
+-- the number of a refusal
+abbrev pub refused_number : Refused → ℕ
+refused_number WrongRoom = 20
+refused_number NotOnRoster = 24
+
+-- an account that does not stand among the schools is refused
+abbrev pub said_of : Option ℕ → Result ℕ Refused
+said_of (Some ceiling) = Ok ceiling
+said_of None = Err NotOnRoster
+
+-- what n schools say of an account that stands so among them: its ceiling, or why there is none
+unfoldable pub said : ℕ → Option ℕ → Result ℕ Refused
+said n standing = pick (leb n most_schools) (said_of standing) (Err WrongRoom)
+
+-- and as it is told
+unfoldable pub told_as : Result ℕ Refused → AccountTold
+told_as (Ok ceiling) = told_of (Some ceiling)
+told_as (Err refused) = not_told (refused_number refused)
 
 -- the 16 bytes of a school
 unfoldable pub bytes_of_one : School → List ℕ

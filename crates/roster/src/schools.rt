@@ -1,70 +1,70 @@
-// The roster as a lent array of schools. `is_account`, `find_school` and `ceiling_of` look into the slice, and are kept thin; what else
-// there is takes a school or numbers by value.
-ghost use Rattle.std.specs.Prelude.{◌≡◌, ◌<◌, length};
-ghost use Rattle.roster.specs.Schools.{is_of, is_account, place_in, find_school, ceiling_of, told_at};
+// The roster as a lent array of schools: whoever calls from C lends it as it stands in memory.
+ghost use Rattle.std.specs.Prelude.{◌≡◌, length};
+ghost use Rattle.roster.specs.Schools.{is_of, find_school, ceiling_of, standing_of, refused_number, said, told_as};
 
 use crate::MOST_SCHOOLS;
-use cells::same;
+use cells::{same, same_by};
+use std::convert::From;
 
 // An entry of the roster: in memory the 16 bytes of one.
 #[repr(C)]
-#[derive(Clone, Copy)]
+#[derive(Clone, Copy, PartialEq, Eq, Debug)]
 pub struct School {
     pub address: [u8; 10],
     pub qualifier: [u8; 2],
     pub ceiling: u32,
 }
 
-// What is told of an account: 0 and its ceiling, or a refusal.
+// What is told of an account: 0 and its ceiling, or the number of a refusal.
 #[repr(C)]
-#[derive(Clone, Copy)]
+#[derive(Clone, Copy, PartialEq, Eq, Debug)]
 pub struct AccountTold {
     pub answer: u64,
     pub place: usize,
     pub ceiling: u64,
 }
 
-// Answer numbers.
-pub const WRONG_ROOM: u64 = 20;
+// Why nothing is told of an account: the schools are no roster, or none of them has it.
+#[derive(Clone, Copy, PartialEq, Eq, Debug)]
+pub enum Refused {
+    WrongRoom,
+    NotOnRoster,
+}
 
-pub const NOT_ON_ROSTER: u64 = 24;
+impl From<Refused> for u64 {
+    ghost from_gives = { λ r n. n ≡ refused_number r };
+
+    fn from(r: Refused) -> u64 {
+        match r {
+            Refused::WrongRoom => 20,
+            Refused::NotOnRoster => 24,
+        }
+    }
+}
 
 // Whether a school has an account.
-fn is_of(school: School, address: &[u8], qualifier: &[u8]) -> bool
-    ensures { result ≡ is_of school address.now qualifier.now }
+#[tactic(auto, unfolding(crate::specs::Schools::is_of))]
+fn is_of(school: &School, address: &[u8], qualifier: &[u8]) -> bool
+    ensures { result ≡ is_of school.now address.now qualifier.now }
 {
-    let a = school.address;
-    if !same(&a, address) {
-        return false;
-    }
-    let q = school.qualifier;
-    same(&q, qualifier)
+    same_by(&school.address, address, 0) && same(&school.qualifier, qualifier)
 }
 
-// Whether the school with an index has an account.
-fn is_account(schools: &[School], i: usize, address: &[u8], qualifier: &[u8]) -> bool
-    requires { i < length schools.now }
-    ensures { result ≡ is_account schools.now address.now qualifier.now i }
+// The index of the first school with an account.
+#[tactic(auto, unfolding(crate::specs::Schools::find_school, crate::specs::Schools::is_account), using(cells::proofs::Searches::first_here, cells::proofs::Searches::first_next, cells::proofs::Searches::first_end))]
+pub fn find_school(schools: &[School], address: &[u8], qualifier: &[u8]) -> Option<usize>
+    ensures { result ≡ find_school schools.now address.now qualifier.now }
 {
-    is_of(schools[i], address, qualifier)
-}
-
-// The index of the first school with an account; how many schools there are where none has it.
-pub fn find_school(schools: &[School], address: &[u8], qualifier: &[u8]) -> usize
-    ensures { result ≡ place_in (length schools.now) (find_school schools.now address.now qualifier.now) }
-{
-    let n = schools.len();
-    let mut i: usize = 0;
-    while i < n {
-        if is_account(schools, i, address, qualifier) {
-            break;
+    for (i, school) in schools.iter().enumerate() {
+        if is_of(school, address, qualifier) {
+            return Some(i);
         }
-        i += 1;
     }
-    i
+    None
 }
 
 // The ceiling of the school with an index, 0 past the last.
+#[tactic(auto, unfolding(crate::specs::Schools::ceiling_of))]
 pub fn ceiling_of(schools: &[School], i: usize) -> u32
     ensures { result ≡ ceiling_of schools.now i }
 {
@@ -75,27 +75,34 @@ pub fn ceiling_of(schools: &[School], i: usize) -> u32
     }
 }
 
-// What is told where the first of n schools with the account has index i, or none where i is not below n.
-pub fn told(n: usize, i: usize, ceiling: u32) -> AccountTold
-    ensures { result ≡ told_at n i ceiling }
+// What the schools say of an account: its ceiling, or why there is none.
+#[tactic(auto, unfolding(crate::specs::Schools::said, crate::specs::Schools::standing_of, crate::specs::Schools::standing_among))]
+pub fn said(schools: &[School], address: &[u8], qualifier: &[u8]) -> Result<u64, Refused>
+    ensures { result ≡ said (length schools.now) (standing_of schools.now address.now qualifier.now) }
 {
-    if MOST_SCHOOLS < n {
-        return AccountTold {
-            answer: WRONG_ROOM,
-            place: 0,
-            ceiling: 0,
-        };
+    if MOST_SCHOOLS < schools.len() {
+        return Err(Refused::WrongRoom);
     }
-    if n <= i {
-        return AccountTold {
-            answer: NOT_ON_ROSTER,
-            place: 0,
-            ceiling: 0,
-        };
-    }
-    AccountTold {
-        answer: 0,
-        place: 0,
-        ceiling: ceiling as u64,
+    let i = find_school(schools, address, qualifier).ok_or(Refused::NotOnRoster)?;
+    Ok(u64::from(ceiling_of(schools, i)))
+}
+
+impl From<Result<u64, Refused>> for AccountTold {
+    ghost from_gives = { λ s told. told ≡ told_as s };
+
+    #[tactic(auto, unfolding(crate::specs::Schools::told_as, crate::specs::Schools::told_of, crate::specs::Schools::not_told))]
+    fn from(said: Result<u64, Refused>) -> AccountTold {
+        match said {
+            Ok(ceiling) => AccountTold {
+                answer: 0,
+                place: 0,
+                ceiling,
+            },
+            Err(refused) => AccountTold {
+                answer: u64::from(refused),
+                place: 0,
+                ceiling: 0,
+            },
+        }
     }
 }

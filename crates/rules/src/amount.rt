@@ -7,16 +7,16 @@ use crate::number::number_of;
 use std::fmt;
 
 // Ten-thousandths of the currency.
-#[derive(Clone, Copy, PartialEq, Eq, Debug)]
+#[derive(Clone, Copy, PartialEq, Eq, Debug, Default)]
 pub struct Price(pub u64);
 
 // Ten-thousandths of a percent.
-#[derive(Clone, Copy, PartialEq, Eq, Debug)]
+#[derive(Clone, Copy, PartialEq, Eq, Debug, Default)]
 pub struct Discount(pub u64);
 
 // So many copies; a number of 64 bits for C too.
 #[repr(C)]
-#[derive(Clone, Copy, PartialEq, Eq, Debug)]
+#[derive(Clone, Copy, PartialEq, Eq, Debug, Default)]
 pub struct Copies(pub u64);
 
 // What digits count of: `of` gives that many.

@@ -8,7 +8,7 @@ use crate::number::pair_at;
 use signs::{NINE, ZERO};
 use std::fmt;
 
-#[derive(Clone, Copy, PartialEq, Eq, Debug)]
+#[derive(Clone, Copy, PartialEq, Eq, Debug, Default)]
 pub struct Day {
     pub year: u64,
     pub month: u64,

@@ -1,127 +1,106 @@
 // The parts of a bundle, printed with their values, and the record written back from them.
 #![tactic(auto)]
 
-use cells::{part, same};
+use cells::part;
 use lent_parts::lent::lent_part;
 use packing::write_parts;
 use parts::entry::PART_WIDTH;
 use parts::loops::{LOOP_FIELDS, MOST_PARTS};
 use parts::part::{Medium, Part, PartArticle, PartPrice};
 use record::layout::{DELIVERY_WIDTH, MOST_BYTES};
-use shown::{number, text};
 use std::io;
 use std::io::Write;
 use unpacking::{FULL_TABLE, read_parts};
+use writing::answer::Written;
 
 // The bytes of eight parts.
 const FULL_ROOM: usize = 544;
 
-fn show_price<W: Write>(out: &mut W, name: &[u8], p: PartPrice) -> io::Result<()> {
-    let amount = p.amount;
-    let qualifier = p.qualifier;
-    let currency = p.currency;
-    text(out, b"    ")?;
-    text(out, name)?;
-    text(out, b" ")?;
-    number(out, amount.0)?;
-    text(out, b" in ")?;
-    number(out, p.digits as u64)?;
-    text(out, b" digits [")?;
-    text(out, &qualifier)?;
-    text(out, b"] [")?;
-    text(out, &currency)?;
-    text(out, b"]\n")
+// A record and the table that a check filled with its optional fields: how many, and three numbers each.
+#[derive(Clone, Copy, PartialEq, Eq, Debug)]
+pub struct Listed<'a> {
+    pub record: &'a [u8],
+    pub table: &'a [usize; FULL_TABLE],
+    pub fields: usize,
 }
 
-fn show_article<W: Write>(out: &mut W, a: PartArticle) -> io::Result<()> {
-    let bytes = a.bytes;
-    let qualifier = a.qualifier;
-    text(out, b"    article [")?;
-    text(out, part(&bytes, 0, a.length as usize))?;
-    text(out, b"] [")?;
-    text(out, &qualifier)?;
-    text(out, b"]\n")
+fn show_price<W: Write>(out: &mut W, name: &str, p: &PartPrice) -> io::Result<()> {
+    write!(out, "    {name} {} in {} digits [", p.amount.0, p.digits)?;
+    out.write_all(&p.qualifier)?;
+    out.write_all(b"] [")?;
+    out.write_all(&p.currency)?;
+    out.write_all(b"]\n")
 }
 
-fn show_part<W: Write>(out: &mut W, p: Part) -> io::Result<()> {
-    let medium = p.medium;
-    let net = p.net;
-    let list = p.list;
-    let article = p.article;
-    let tax = [p.tax];
-    match medium {
-        Medium::Physical => text(out, b"  physical part, tax [")?,
-        Medium::Digital => text(out, b"  digital part, tax [")?,
-    }
-    text(out, &tax)?;
-    text(out, b"]\n")?;
-    show_price(out, b"net", net)?;
-    show_price(out, b"list", list)?;
-    show_article(out, article)
+fn show_article<W: Write>(out: &mut W, a: &PartArticle) -> io::Result<()> {
+    out.write_all(b"    article [")?;
+    out.write_all(part(&a.bytes, 0, a.length as usize))?;
+    out.write_all(b"] [")?;
+    out.write_all(&a.qualifier)?;
+    out.write_all(b"]\n")
 }
 
-fn show_entry<W: Write>(out: &mut W, room: &[u8; FULL_ROOM], i: usize) -> io::Result<()> {
-    if MOST_PARTS <= i {
-        return Ok(());
-    }
-    show_part(out, lent_part(room, i * PART_WIDTH))
+fn show_part<W: Write>(out: &mut W, p: &Part) -> io::Result<()> {
+    let medium = match p.medium {
+        Medium::Physical => "physical",
+        Medium::Digital => "digital",
+    };
+    write!(out, "  {medium} part, tax [")?;
+    out.write_all(&[p.tax])?;
+    out.write_all(b"]\n")?;
+    show_price(out, "net", &p.net)?;
+    show_price(out, "list", &p.list)?;
+    show_article(out, &p.article)
 }
 
-// Whether the record that was written with n parts is the record again.
-fn show_written<W: Write>(
+// Whether what was written into `copy` is the record again.
+pub fn show_written<W: Write>(
     out: &mut W,
-    s: &[u8],
-    table: &[usize; FULL_TABLE],
-    fields: usize,
+    what: &str,
+    written: Written,
+    copy: &[u8; MOST_BYTES],
+    record: &[u8],
+) -> io::Result<()> {
+    let how = if written.answer != 0 {
+        "refused"
+    } else if part(copy, 0, written.length) == record {
+        "written back"
+    } else {
+        "written otherwise"
+    };
+    writeln!(out, "  {what} {how}")
+}
+
+// The record written back from the fields before its n parts, and from these.
+fn write_back<W: Write>(
+    out: &mut W,
+    listed: Listed,
     room: &[u8; FULL_ROOM],
     n: usize,
 ) -> io::Result<()> {
-    if MOST_PARTS < n {
-        return Ok(());
-    }
-    if fields < n * LOOP_FIELDS {
-        return Ok(());
-    }
-    let mut record = [0u8; MOST_BYTES];
-    let w = write_parts(
-        part(s, 0, DELIVERY_WIDTH),
+    let Listed {
+        record,
         table,
-        fields - n * LOOP_FIELDS,
-        s,
-        room,
-        n,
-        &mut record,
-    );
-    if w.answer != 0 {
-        return text(out, b"  parts refused\n");
-    }
-    if same(part(&record, 0, w.length), s) {
-        text(out, b"  parts written back\n")
-    } else {
-        text(out, b"  parts written otherwise\n")
-    }
+        fields,
+    } = listed;
+    let Some(others) = fields.checked_sub(n * LOOP_FIELDS) else {
+        return Ok(());
+    };
+    let mut copy = [0; MOST_BYTES];
+    let fixed = part(record, 0, DELIVERY_WIDTH);
+    let written = write_parts(fixed, table, others, record, room, n, &mut copy);
+    show_written(out, "parts", written, &copy, record)
 }
 
-fn show_entries<W: Write>(out: &mut W, room: &[u8; FULL_ROOM], n: usize) -> io::Result<()> {
+// The parts of a record; nothing of one that has none.
+pub fn show_parts<W: Write>(out: &mut W, listed: Listed) -> io::Result<()> {
+    let mut room = [0; FULL_ROOM];
+    let n = read_parts(listed.record, &mut room).parts.min(MOST_PARTS);
     for i in 0..n {
-        show_entry(out, room, i)?;
+        show_part(out, &lent_part(&room, i * PART_WIDTH))?;
     }
-    Ok(())
-}
-
-// The parts of a record with so many fields in a table that a check filled; nothing of a record that has none.
-pub fn show_parts<W: Write>(
-    out: &mut W,
-    s: &[u8],
-    table: &[usize; FULL_TABLE],
-    fields: usize,
-) -> io::Result<()> {
-    let mut room = [0u8; FULL_ROOM];
-    let read = read_parts(s, &mut room);
-    let n = read.parts;
-    show_entries(out, &room, n)?;
-    if 0 < n {
-        show_written(out, s, table, fields, &room, n)?;
+    if n == 0 {
+        return Ok(());
     }
-    Ok(())
+    write_back(out, listed, &room, n)
 }

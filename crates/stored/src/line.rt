@@ -6,9 +6,9 @@ use crate::{
     ARRIVED_AT, EXPECTED_AT, KEY_WIDTH, LINE_WIDTH, MARK_AT, MESSAGE_AT, MOST_ARRIVED, MOST_COPIES,
     ORDERED_AT,
 };
+use cells::bytes_at;
 use cells::little::get;
-use cells::{bytes_at, same};
-use entry::key::SCHOOL_WIDTH;
+use entry::key::{ARTICLE_WIDTH, SCHOOL_WIDTH, field_is};
 use entry::line::{Line, Mark, missing};
 use entry::report::{expected_date, is_report_sound};
 use rules::amount::Copies;
@@ -48,21 +48,19 @@ impl<'a> StoredLine<'a> {
     }
 
     // Whether it was ordered under an article and its qualifier.
-    #[tactic(auto, unfolding(entry::specs::Stored::article_is, entry::specs::Stored::article_at), using(cells::proofs::Parts::part_is))]
+    #[tactic(auto, unfolding(entry::specs::Stored::article_is, entry::specs::Stored::article_at))]
     pub fn article_is(self, article: &[u8]) -> bool
         ensures { result ≡ article_is self.entry.lines.now article.now self.entry.index }
     {
-        let at = LINE_WIDTH * self.index;
-        same(&self.lines[at + KEY_WIDTH..at + ORDERED_AT], article)
+        field_is::<ARTICLE_WIDTH>(self.lines, LINE_WIDTH * self.index + KEY_WIDTH, article)
     }
 
     // Whether it is a school's.
-    #[tactic(auto, unfolding(entry::specs::Stored::school_is, entry::specs::Stored::school_at), using(cells::proofs::Parts::part_is))]
+    #[tactic(auto, unfolding(entry::specs::Stored::school_is, entry::specs::Stored::school_at))]
     fn school_is(self, school: &[u8]) -> bool
         ensures { result ≡ school_is self.entry.lines.now school.now self.entry.index }
     {
-        let at = LINE_WIDTH * self.index;
-        same(&self.lines[at..at + SCHOOL_WIDTH], school)
+        field_is::<SCHOOL_WIDTH>(self.lines, LINE_WIDTH * self.index, school)
     }
 
     // Its open copies where it is a school's, else none.

@@ -1,4 +1,5 @@
 // The C library: the calls that the host program links, over byte slices and numbers. A slice is a pointer and a length, `used` one pointer.
+// The C interface is these pointers and lengths, so what travels together stays apart here: lines, slips and used, a table with its count, the five fields of a key.
 #![tactic(auto)]
 
 ghost use Rattle.std.specs.Prelude.{◌≡◌, [], ◌∷◌};
@@ -17,7 +18,7 @@ ghost use Rattle.roster.specs.Schools.{account_told};
 use book::answer::{Booked, Told};
 use parts::answer::PartsRead;
 use record::answer::Checked;
-use roster::schools::{AccountTold, School, ceiling_of, find_school, told};
+use roster::schools::{AccountTold, School, said};
 use save::answer::{Loaded, Saved};
 use writing::answer::Written;
 
@@ -109,12 +110,11 @@ pub extern "C" fn wq_line<'a>(
 
 // What the roster says of an account.
 #[unsafe(no_mangle)]
+#[tactic(auto, using(roster::proofs::Told::told_is))]
 pub extern "C" fn wq_account(schools: &[School], address: &[u8], qualifier: &[u8]) -> AccountTold
     ensures { result ≡ account_told schools.now address.now qualifier.now }
 {
-    let i = find_school(schools, address, qualifier);
-    let ceiling = ceiling_of(schools, i);
-    told(schools.len(), i, ceiling)
+    AccountTold::from(said(schools, address, qualifier))
 }
 
 // Saves the lent book at the front of the output, in the new form.

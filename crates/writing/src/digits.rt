@@ -21,39 +21,36 @@ fn last_digit(n: u64) -> u8
 }
 
 // The last digits of a number, as many as the width says, from the last one to the first.
+#[tactic(auto, unfolding(crate::specs::Digits::digits_of), using(crate::proofs::Decimals::digits_back))]
 pub fn put_digits(out: &mut [u8], at: usize, width: usize, number: u64)
     requires { (width ≤ 15) × (at + width ≤ length out.old) }
     ensures { out.new ≡ sets out.old at (digits_of width number) }
 {
     let mut n = number;
-    let mut left = width;
-    while 0 < left {
-        left -= 1;
-        put_byte(out, at + left, last_digit(n));
+    for i in (0..width).rev() {
+        put_byte(out, at + i, last_digit(n));
         n /= 10;
     }
 }
 
 // Bytes that break every rule, for a value outside its range.
+#[tactic(auto, unfolding(crate::specs::Digits::unwritable), using(cells::proofs::Stores::put_is))]
 pub fn put_unwritable(out: &mut [u8], at: usize, width: usize)
     requires { (width ≤ 15) × (at + width ≤ length out.old) }
     ensures { out.new ≡ sets out.old at (unwritable width) }
 {
-    let mut left = width;
-    while 0 < left {
-        left -= 1;
-        put_byte(out, at + left, 0);
-    }
+    out[at..at + width].fill(0);
 }
 
-// The digits of a number that is below the limit, ten to the width.
-pub fn put_number(out: &mut [u8], at: usize, width: usize, limit: u64, number: u64)
-    requires { (width ≤ 15) × (limit ≡ 10 ^ width) × (at + width ≤ length out.old) }
-    ensures { out.new ≡ sets out.old at (number_bytes width number) }
+// A number in W digits, or where it has more, bytes that break every rule.
+#[tactic(auto, unfolding(crate::specs::Digits::number_bytes), using(std::proofs::lemmas::Bool::Decides::nat_tests))]
+pub fn put_number<const W: usize>(out: &mut [u8], at: usize, number: u64)
+    requires { (W ≤ 15) × (at + W ≤ length out.old) }
+    ensures { out.new ≡ sets out.old at (number_bytes W number) }
 {
-    if number < limit {
-        put_digits(out, at, width, number);
+    if number < 10u64.pow(W as u32) {
+        put_digits(out, at, W, number);
     } else {
-        put_unwritable(out, at, width);
+        put_unwritable(out, at, W);
     }
 }

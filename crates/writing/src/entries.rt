@@ -23,59 +23,57 @@ pub struct Entry {
     pub width: usize,
 }
 
-// Whether each byte may stand in a content: allowed, and no star.
+// Whether each byte may stand in a content: allowed, and no star. A loop, since `iter().all(..)` is slower on bytes.
+#[tactic(auto, unfolding(signs::specs::Class::belongs), using(crate::proofs::Contents::content_run))]
 pub fn is_content(s: &[u8]) -> bool
     ensures { result ≡ all content_byte s.now }
 {
-    let mut i: usize = 0;
-    while i < s.len() {
-        let b = s[i];
-        if !(belongs_to(Class::Allowed, b) & (b != STAR)) {
+    for b in s {
+        if !(belongs_to(Class::Allowed, *b) & (*b != STAR)) {
             return false;
         }
-        i += 1;
     }
     true
 }
 
 // Whether an ID is below 9999, and its content inside the lent bytes and of bytes that may stand there.
+#[tactic(auto, unfolding(crate::specs::Write::writable, crate::specs::Write::inside, crate::specs::Write::content_in), using(std::proofs::lemmas::Bool::Decides::nat_tests))]
 fn is_writable(contents: &[u8], e: Entry) -> bool
     ensures { result ≡ writable contents.now e }
 {
-    let place = e.place;
-    let width = e.width;
     let all = contents.len();
     if LAST_ID <= e.id {
         return false;
     }
-    if all < place {
+    if all < e.place {
         return false;
     }
-    if all - place < width {
+    if all - e.place < e.width {
         return false;
     }
-    is_content(part(contents, place, place + width))
+    is_content(part(contents, e.place, e.place + e.width))
 }
 
-// Whether a content is as the table of document 01 has it.
+// Whether a content is as the table of RULES 2.3 has it.
+#[tactic(auto, unfolding(record::specs::Contents::content_kept), using(crate::proofs::Contents::any_barred))]
 fn content_kept(k: Kind, id: usize, content: &[u8]) -> bool
     ensures { result ≡ content_kept k id content.now }
 {
-    if !is_guarded(k, id) {
-        return rule_kept(id, content);
+    if is_guarded(k, id) && !all_of(Class::Unbarred, content) {
+        return false;
     }
-    all_of(Class::Unbarred, content) & rule_kept(id, content)
+    rule_kept(id, content)
 }
 
 // Whether an entry can be written as a field.
+#[tactic(auto, unfolding(crate::specs::Write::entry_kept, crate::specs::Write::content_in), using(crate::proofs::Contents::writable_ends))]
 fn keeps_entry(k: Kind, contents: &[u8], e: Entry) -> bool
     ensures { result ≡ entry_kept k contents.now e }
 {
     if !is_writable(contents, e) {
         return false;
     }
-    let place = e.place;
-    content_kept(k, e.id, part(contents, place, place + e.width))
+    content_kept(k, e.id, part(contents, e.place, e.place + e.width))
 }
 
 // 8, then 23: so many entries of a table, where a record may have at most so many and the table has them all.

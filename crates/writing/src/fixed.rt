@@ -1,5 +1,5 @@
 // The fixed part as it is to be written.
-ghost use Rattle.std.specs.Prelude.{◌≡◌, min};
+ghost use Rattle.std.specs.Prelude.{◌≡◌};
 ghost use Rattle.record.specs.Layout.{layout, kind_of};
 ghost use Rattle.writing.specs.Write.{field_holding, first_faulty, fixed_judged};
 
@@ -24,13 +24,8 @@ pub fn field_holding(k: Kind, place: usize) -> usize
     fields.len()
 }
 
-fn smaller(a: usize, b: usize) -> usize
-    ensures { result ≡ min a b }
-{
-    if a < b { a } else { b }
-}
-
-// The first fixed field that breaks its rule or holds a byte not allowed.
+// The first fixed field that breaks its rule or holds a byte not allowed. Most often each byte is allowed.
+#[tactic(auto, unfolding(crate::specs::Write::first_faulty, record::specs::Layout::fixed_width), using(crate::proofs::Holding::held_none, record::proofs::Layouts::broken_most))]
 pub fn first_faulty(k: Kind, fixed: &[u8]) -> usize
     ensures { result ≡ first_faulty k fixed.now }
 {
@@ -39,24 +34,21 @@ pub fn first_faulty(k: Kind, fixed: &[u8]) -> usize
     if fixed_width(k) <= allowed {
         return broken;
     }
-    smaller(broken, field_holding(k, allowed))
+    broken.min(field_holding(k, allowed))
 }
 
 // 5: the first fixed field that is not as it has to be.
+#[tactic(auto, unfolding(crate::specs::Write::fixed_judged), using(std::proofs::lemmas::Bool::Decides::nat_tests))]
 pub fn judge_fixed(fixed: &[u8]) -> Verdict
     ensures { result ≡ fixed_judged (kind_of fixed.now) fixed.now }
 {
-    match kind_of(fixed) {
-        None => Err(Refusal::FixedField(0)),
-        Some(k) => {
-            if fixed.len() != fixed_width(k) {
-                return Err(Refusal::FixedField(0));
-            }
-            let faulty = first_faulty(k, fixed);
-            if faulty != layout(k).len() {
-                return Err(Refusal::FixedField(faulty));
-            }
-            Ok(0)
-        }
+    let k = kind_of(fixed).ok_or(Refusal::FixedField(0))?;
+    if fixed.len() != fixed_width(k) {
+        return Err(Refusal::FixedField(0));
     }
+    let faulty = first_faulty(k, fixed);
+    if faulty != layout(k).len() {
+        return Err(Refusal::FixedField(faulty));
+    }
+    Ok(0)
 }

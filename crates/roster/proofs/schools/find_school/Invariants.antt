@@ -1,15 +1,8 @@
 -- `roster::schools::find_school` meets its contract. The invariant: the schools that are left give the same result as all of them.
-use Rattle.std.proofs.Common.{◌≡◌, ◌≤◌, ◌-◌, length}
+use Rattle.std.proofs.Common.{◌≡◌, ◌-◌, length}
 use Rattle.cells.specs.Search.{first_from}
 use Rattle.roster.specs.Schools.{is_account, find_school}
 use Rattle.roster.proofs.schools.find_school.Given as goal
 
 abbrev pub invariant-loop-i : goal.invariant-loop-i
-invariant-loop-i l = record {
-  all : l.n ≡ length l.schools;
-  within : l.i ≤ l.n;
-  left : find_school l.schools l.address l.qualifier ≡ first_from (is_account l.schools l.address l.qualifier) (l.n - l.i) l.i;
-}
-
-abbrev pub decreases-loop-i : goal.decreases-loop-i
-decreases-loop-i l = l.n - l.i
+invariant-loop-i l = find_school l.schools l.address l.qualifier ≡ first_from (is_account l.schools l.address l.qualifier) (length l.schools - l.i) l.i

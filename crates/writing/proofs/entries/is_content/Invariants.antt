@@ -1,13 +1,9 @@
--- `writing::entries::is_content` meets its contract. The invariant: the bytes passed and the run of what is left make the run of the whole.
+-- `writing::entries::is_content` meets its contract. The invariant: what is left is judged as the whole is.
 use mathlib.Core.Path.{◌≡◌}
-use Prim.Native.Nat.{◌+◌, ◌-◌, ◌≤◌}
-use lib.ListN.{length, drop}
-use Rattle.cells.specs.Bytes.{run}
+use lib.ListN.{drop}
+use Rattle.cells.specs.Bytes.{all}
 use Rattle.writing.specs.Write.{content_byte}
 use Rattle.writing.proofs.entries.is_content.Given as goal
 
-abbrev pub invariant-loop-i : goal.invariant-loop-i
-invariant-loop-i l = (l.i ≤ length l.s) × (run content_byte l.s ≡ l.i + run content_byte (drop l.i l.s))
-
-abbrev pub decreases-loop-i : goal.decreases-loop-i
-decreases-loop-i l = length l.s - l.i
+abbrev pub invariant-loop-b : goal.invariant-loop-b
+invariant-loop-b l = all content_byte l.s ≡ all content_byte (drop l.b-index l.s)
