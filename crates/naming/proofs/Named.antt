@@ -3,6 +3,7 @@ use mathlib.Core.Path.{◌≡◌, ◌∙◌, ap, ap₂, sym, refl}
 use mathlib.Core.Bool.{true, Bool}
 use mathlib.Core.List.{List, [], ◌∷◌, ◌++◌, append_assoc, append-nil}
 use Prim.Native.Nat.{ℕ, ◌+◌, ◌≤◌}
+use native.Mathlib.Omega.{arith}
 use lib.ListN.{length}
 use lib.Seq.{slice}
 use Rattle.cells.specs.Bytes.{all, joined}
@@ -47,15 +48,14 @@ module _ (s : List ℕ) where
   report_article_is = join 48 13 2 s _ ∙ append-nil _
 
   -- an order's key and article stand in it in two parts
-  order_key_is : line_key Order s ≡ slice 4 28 s ++ slice 36 46 s
+  order_key_parts : line_key Order s ≡ slice 4 28 s ++ slice 36 46 s
   unfolding line_key key_fields joined field_bytes start_of total layout
-  order_key_is = join 4 10 2 s _ ∙ join 4 12 10 s _ ∙ join 4 22 2 s _ ∙ ap (λ (r : List ℕ). slice 4 28 s ++ r) (append-nil _)
+  order_key_parts = join 4 10 2 s _ ∙ join 4 12 10 s _ ∙ join 4 22 2 s _ ∙ ap (λ (r : List ℕ). slice 4 28 s ++ r) (append-nil _)
 
-  pub order_parts : {front back : List ℕ} → front ≡ slice 4 28 s → back ≡ slice 36 61 s → front ++ back ≡ line_key Order s ++ article_in Order s
-  order_parts f b =
-      ap₂ (λ (p q : List ℕ). p ++ q) f b
-      ∙ ap (λ (r : List ℕ). slice 4 28 s ++ r) (sym (parts_join 36 10 15 s))
-      ∙ sym (ap₂ (λ (p q : List ℕ). p ++ q) order_key_is order_article_is ∙ append_assoc (slice 4 28 s) (slice 36 46 s) (slice 46 61 s))
+  pub order_parts : slice 4 28 s ++ slice 36 61 s ≡ line_key Order s ++ article_in Order s
+  order_parts =
+      ap (λ (r : List ℕ). slice 4 28 s ++ r) (sym (parts_join 36 10 15 s))
+      ∙ sym (ap₂ (λ (p q : List ℕ). p ++ q) order_key_parts order_article_is ∙ append_assoc (slice 4 28 s) (slice 36 46 s) (slice 46 61 s))
 
   -- the school heads the key
   pub order_school_is : school_in Order s ≡ slice 4 16 s
@@ -88,28 +88,30 @@ module _ (s : List ℕ) where
   unfolding key_fields layout all
   report_wide h = fields_wide Report s h (3 ∷ 4 ∷ 1 ∷ 2 ∷ 6 ∷ []) refl
 
--- the quantity, and whether a field is blank, as the code takes them from their places
-module _ (s : List ℕ) {p : List ℕ} where
-  pub order_copies : {n : Copies} → n ≡ copies_of p → p ≡ slice 61 65 s → n ≡ copies_in Order s
+-- the quantity, and whether a field is blank, by their places
+module _ (s : List ℕ) where
+  pub order_copies_is : copies_in Order s ≡ copies_of (slice 61 65 s)
   unfolding copies_in field_bytes start_of total layout
-  order_copies e h = rw (e, h)
+  order_copies_is = refl
 
-  pub goods_copies : {n : Copies} → n ≡ copies_of p → p ≡ slice 75 79 s → n ≡ copies_in Goods s
+  pub goods_copies_is : copies_in Goods s ≡ copies_of (slice 75 79 s)
   unfolding copies_in field_bytes start_of total layout
-  goods_copies e h = rw (e, h)
+  goods_copies_is = refl
 
-  pub order_blank : {t : Bool} → t ≡ all_of Blank p → p ≡ slice 36 46 s → t ≡ no_reference Order s
+  pub order_blank_is : no_reference Order s ≡ all_of Blank (slice 36 46 s)
   unfolding no_reference field_bytes start_of total layout
-  order_blank e h = rw (e, h)
+  order_blank_is = refl
 
-  pub goods_blank : {t : Bool} → t ≡ all_of Blank p → p ≡ slice 50 60 s → t ≡ no_reference Goods s
+  pub goods_blank_is : no_reference Goods s ≡ all_of Blank (slice 50 60 s)
   unfolding no_reference field_bytes start_of total layout
-  goods_blank e h = rw (e, h)
+  goods_blank_is = refl
 
-  pub slip_blank : {t : Bool} → t ≡ all_of Blank p → p ≡ slice 36 46 s → t ≡ nothing_to_book Goods s
+  pub report_blank_is : no_reference Report s ≡ all_of Blank (slice 38 48 s)
+  unfolding no_reference field_bytes start_of total layout
+  report_blank_is = refl
+
+  pub slip_blank_is : nothing_to_book Goods s ≡ all_of Blank (slice 36 46 s)
   unfolding nothing_to_book field_bytes start_of total layout
-  slip_blank e h = rw (e, h)
+  slip_blank_is = refl
 
-  pub report_blank : {t : Bool} → t ≡ all_of Blank p → p ≡ slice 38 48 s → t ≡ no_reference Report s
-  unfolding no_reference field_bytes start_of total layout
-  report_blank e h = rw (e, h)
+pub ruleset named = (order_school_is, goods_school_is, report_school_is, order_article_is, goods_article_is, report_article_is)
