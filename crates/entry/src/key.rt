@@ -38,13 +38,7 @@ pub const SLIP_NUMBER_AT: usize = 32;
 
 pub const POSITION_AT: usize = 42;
 
-// A line's key given field by field has five. The first and the last tell most keys apart: schools by the front of their address, references by their last eight bytes.
-pub const KEY_FIELDS: usize = 5;
-
-pub const SCHOOL_FIELD: usize = 0;
-
-pub const REFERENCE_FIELD: usize = 4;
-
+// Most keys of lines are told apart by the front of the school's address and by the last eight bytes of the reference: where these begin in their fields.
 pub const SCHOOL_TELLS: usize = 0;
 
 pub const REFERENCE_TELLS: usize = 2;
