@@ -52,12 +52,3 @@ long_month (suc (suc (suc (suc (suc (suc (suc (suc (suc (suc zero)))))))))) ne l
 long_month (suc (suc (suc (suc (suc (suc (suc (suc (suc (suc (suc zero))))))))))) ne l h = refl
 long_month (suc (suc (suc (suc (suc (suc (suc (suc (suc (suc (suc (suc zero)))))))))))) ne l h = refl
 long_month (suc (suc (suc (suc (suc (suc (suc (suc (suc (suc (suc (suc (suc m))))))))))))) ne l h = absurd (omega arith)
-
--- eight bytes are digits where each of them is one
-pub eight_digits : (s : List ℕ) → length s ≡ day_width
-    → all_of Digit s ≡ digit (get_or s 0 0) && (digit (get_or s 1 0) && (digit (get_or s 2 0) && (digit (get_or s 3 0) && (digit (get_or s 4 0) && (digit (get_or s 5 0) && (digit (get_or s 6 0) && digit (get_or s 7 0)))))))
-unfolding all_of all belongs
-eight_digits s h =
-    let whole : slice 0 8 s ≡ s = take_all 8 s (omega arith) in
-    ap (all_of Digit) (sym whole)
-    ∙ rw (next s 0 8 (omega arith) (omega arith), next s 1 8 (omega arith) (omega arith), next s 2 8 (omega arith) (omega arith), next s 3 8 (omega arith) (omega arith), next s 4 8 (omega arith) (omega arith), next s 5 8 (omega arith) (omega arith), next s 6 8 (omega arith) (omega arith), next s 7 8 (omega arith) (omega arith), nothing 8 8 s (omega arith), and_true (digit (get_or s 7 0))) refl
