@@ -3,6 +3,7 @@
 
 ghost use Rattle.std.specs.Prelude.{◌≡◌, ◌*◌, ◌≤◌, length};
 ghost use Rattle.book.specs.Lent.{lent};
+ghost use Rattle.finding.specs.Seen.{seen};
 ghost use Rattle.entry.specs.Stored.{line_width, slip_width};
 ghost use Rattle.save.specs.Saved.{written, saved_of, save};
 ghost use Rattle.save.specs.Load.{lent_loaded, outcome, loaded_of, load};
@@ -10,7 +11,9 @@ ghost use Rattle.save.specs.Load.{lent_loaded, outcome, loaded_of, load};
 use filling::input::{take_lines, take_slips};
 use filling::output::{put_end, put_lines, put_slips};
 use filling::used::UsedLines;
-use finding::seek::{MOST_LINES, MOST_SLIPS, is_room, is_sound};
+use finding::lent::LentBook;
+use finding::seek::{MOST_LINES, MOST_SLIPS, is_room};
+use finding::sound::SoundBook;
 use save::answer::{Loaded, Refused, Saved};
 use save::form::Form;
 use save::slips::SAVED_SLIP_WIDTH;
@@ -18,35 +21,26 @@ use save::valid::ValidSave;
 use saved::{END_WIDTH, form_in, valid_save};
 use stored::{LINE_WIDTH, SLIP_WIDTH};
 
-// A sound book, saved, and how long its save is.
-#[tactic(auto, unfolding(save::specs::Saved::save, save::specs::Saved::saved_width, save::specs::Saved::saved_of, book::specs::Lent::used_lines, book::specs::Lent::used_slips), using(crate::proofs::Stages::saving))]
-fn saved_into(
-    lines: &[u8],
-    slips: &[u8],
-    used: &[usize; 2],
-    out: &mut [u8],
-) -> Result<usize, Refused>
-    ensures { written (saved_of result) out.new ≡ save (lent lines.now slips.now used.now) out.old }
+// A sound book, saved at the front of the output, and how long its save is.
+#[tactic(auto, unfolding(save::specs::Saved::save, save::specs::Saved::saved_width, save::specs::Saved::saved_of), using(crate::proofs::Stages::storing))]
+fn saved_into(lent: LentBook, out: &mut [u8]) -> Result<usize, Refused>
+    ensures { written (saved_of result) out.new ≡ save (seen lent.entry) out.old }
 {
-    if !is_sound(lines, slips, used) {
-        return Err(Refused::Unsound);
-    }
-    let n = used[0];
-    let m = used[1];
+    let book = SoundBook::of(lent).ok_or(Refused::Unsound)?;
+    let n = book.lent.used_lines();
+    let m = book.lent.used_slips();
     let at = Form::New.slips_at(n);
     let end_at = at + SAVED_SLIP_WIDTH * m;
     let length = end_at + END_WIDTH;
     if out.len() < length {
         return Err(Refused::TooSmall);
     }
-    put_lines(
-        out,
-        UsedLines {
-            bytes: lines,
-            count: n,
-        },
-    );
-    put_slips(out, at, slips, m);
+    let lines = UsedLines {
+        bytes: book.lent.lines,
+        count: n,
+    };
+    put_lines(out, lines);
+    put_slips(out, at, book.lent.slips, m);
     put_end(out, end_at, n, m);
     Ok(length)
 }
@@ -55,7 +49,7 @@ fn saved_into(
 pub fn save(lines: &[u8], slips: &[u8], used: &[usize; 2], out: &mut [u8]) -> Saved
     ensures { written result out.new ≡ save (lent lines.now slips.now used.now) out.old }
 {
-    saved_into(lines, slips, used, out).into()
+    saved_into(LentBook { lines, slips, used }, out).into()
 }
 
 // The book that a save tells, put into rooms that are large enough.
@@ -86,7 +80,9 @@ fn loaded_into(
         return Err(Refused::Unsound);
     }
     let save = valid_save(saved, form_in(saved)).ok_or(Refused::NoSave)?;
-    if (lines.len() / LINE_WIDTH < save.line_count) | (slips.len() / SLIP_WIDTH < save.slip_count) {
+    if !((save.line_count <= lines.len() / LINE_WIDTH)
+        & (save.slip_count <= slips.len() / SLIP_WIDTH))
+    {
         return Err(Refused::TooSmall);
     }
     fill(save, lines, slips, used);
