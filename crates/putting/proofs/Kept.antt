@@ -65,28 +65,8 @@ module _ (id : ℕ) (p : PartPrice) (e : is_kept id (amount_text p) ≡ true) wh
   unfolding amount_text
   amount_kept = rw few (number_kept id p.digits p.amount.0 (rw few at e))
 
--- an article that can be written is no longer than the most
-module _ (id : ℕ) (a : PartArticle) (e : is_kept id (article_text a) ≡ true) where
-  short : leb a.length article_width ≡ true
-  unfolding article_text
-  short = split (leb a.length article_width) (λ t. t) (λ t. absurd (broken id 0 (rw t at e)))
-
-  pub article_most : a.length ≤ article_width
-  article_most = leb-true a.length article_width short
-
 -- a medium that can be written is named
 pub medium_kept : (id : ℕ) (named : Bool) (m : Medium) → is_kept id (medium_text named m) ≡ true → named ≡ true
 unfolding medium_text
 medium_kept id true m e = refl
 medium_kept id false m e = absurd (broken id 2 e)
-
--- a byte that is the first medium's names it, any other of a medium names the second
-pub first_medium : (b : ℕ) → b ≡ 1 → bytes "PHY" ≡ medium_text true (medium_in b)
-unfolding medium_text medium_in
-first_medium b e = rw e
-
-pub second_medium : (b : ℕ) → is_medium b ≡ true → b ≢ 1 → bytes "DIG" ≡ medium_text true (medium_in b)
-unfolding medium_text medium_in is_medium
-second_medium b e n =
-    let two : eqb b 2 ≡ true = rw (ne_eqb b 1 n) at e in
-    rw two
