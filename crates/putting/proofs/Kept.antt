@@ -2,22 +2,20 @@
 use mathlib.Core.Path.{◌≡◌, ◌∙◌, ap, refl}
 use mathlib.Core.Bool.{Bool, true, false, false≢true}
 use mathlib.Core.List.{List, [], ◌∷◌, ◌++◌}
-use mathlib.Core.Logic.{◌≢◌}
 use Prim.Native.Nat.{ℕ, zero, suc, ◌+◌, ◌^◌, ◌≤◌}
 use native.Mathlib.Nat.{zero-add}
 use native.Mathlib.Omega.{arith}
-use borrow.Author.Tests.{leb-true, ne_eqb}
-use lib.Dec.{leb, ltb, eqb}
+use borrow.Author.Tests.{leb-true}
+use lib.Dec.{leb, ltb}
 use lib.ListN.{length}
-use Rattle.cells.specs.Bytes.{all, bytes}
+use Rattle.cells.specs.Bytes.{all}
 use Rattle.cells.proofs.Bools.{split}
 use Rattle.record.specs.Fields.{Optional}
 use Rattle.writing.specs.Digits.{digits_of, unwritable, number_bytes}
-use Rattle.parts.specs.Part.{most_digits, article_width, medium_in, is_medium}
-use Rattle.parts.specs.Fields.{amount_text, article_text, medium_text}
+use Rattle.parts.specs.Part.{most_digits}
+use Rattle.parts.specs.Fields.{amount_text, medium_text}
 use Rattle.parts.specs.declared.part.Medium.{Medium}
 use Rattle.parts.specs.declared.part.PartPrice.{PartPrice}
-use Rattle.parts.specs.declared.part.PartArticle.{PartArticle}
 use Rattle.lent_parts.specs.Faults.{is_kept, first_fault}
 
 -- each of the fields can be written
