@@ -9,11 +9,12 @@ use Rattle.record.specs.Layout.{fixed_width, kind_of}
 use Rattle.record.specs.Read.{judged}
 use Rattle.std.specs.Prelude.{Ok, Some}
 use Rattle.record.specs.declared.layout.Kind.{Kind}
-use Rattle.record.specs.declared.layout.Kind.TheVariants.{Order, Goods, Report}
-use Rattle.reader.proofs.Fitting.{fits_wide}
-use Rattle.entry.specs.Stored.{line_width, slip_width, most_arrived, line_at}
+use Rattle.record.specs.declared.layout.Kind.TheVariants.{Order, Goods, Closing, Report}
+use Rattle.reader.proofs.Fitting.{Fitting, fitting, fits_wide}
+use Rattle.entry.specs.Stored.{line_width, slip_width, most_copies, most_arrived, line_at}
 use Rattle.book.specs.Lent.{Lent, used_lines, used_slips, sound}
 use Rattle.book.specs.Booking.{line_key, copies_in, fit_judged}
+use Rattle.book.proofs.Fields.{order_copies, goods_copies}
 use Rattle.book.proofs.Sounds.{sound_so}
 use Rattle.book.proofs.Finds.{line_stands}
 use Rattle.booking.specs.Fits.{Fits}
@@ -43,6 +44,13 @@ module _ (s : List ℕ) (b : Lent) (i : ℕ) where
   pub report_room : Fits Report s b i → line_width * i + line_width ≤ length b.lines
   report_room q = (line_stands b q.is_sound (line_key Report s) i (report_fits_law s b i q)).0
 
--- a record that is read holds its fixed part
-pub fixed_wide : (k : Kind) (s : List ℕ) (n : ℕ) → kind_of s ≡ Some k → judged s ≡ Ok n → fixed_width k ≤ length s
-fixed_wide k s n g e = omega (arith, fits_wide k s n g e)
+-- a record that is read holds its fixed part, and its quantity has at most four digits
+few : (k : Kind) (s : List ℕ) (n : ℕ) → Fitting k s n → (copies_in k s).0 ≤ most_copies
+unfolding copies_in
+few Order s n f = order_copies s n f
+few Goods s n f = goods_copies s n f
+few Closing s n f = omega arith
+few Report s n f = omega arith
+
+pub read_so : (k : Kind) (s : List ℕ) (n : ℕ) → kind_of s ≡ Some k → judged s ≡ Ok n → (fixed_width k ≤ length s) × ((copies_in k s).0 ≤ most_copies)
+read_so k s n g e = (omega (arith, fits_wide k s n g e), few k s n (fitting k s n g e))

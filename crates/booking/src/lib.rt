@@ -1,15 +1,14 @@
 // The public call of booking: a record booked into a lent book.
 #![tactic(auto)]
 
-ghost use Rattle.std.specs.Prelude.{◌≡◌, true, ◌&&◌};
-ghost use Rattle.roster.specs.Roster.{roster_sound};
+ghost use Rattle.std.specs.Prelude.{◌≡◌, true};
 ghost use Rattle.record.specs.Read.{judged};
 ghost use Rattle.book.specs.Lent.{lent, sound};
 ghost use Rattle.book.specs.Booking.{outcome, entered_as, book_as, book_read, book};
 ghost use Rattle.entering.specs.Held.{held, SameRooms};
 ghost use Rattle.booking.specs.Fits.{Fits};
 
-use book::answer::{Booked, Refused, not_booked};
+use book::answer::{Booked, Refused};
 use entering::held::Book;
 use entering::{enter_goods, enter_order, enter_report};
 use finding::seek::is_sound;
@@ -54,40 +53,28 @@ fn book_as<K: Entered>(given: &ReadRecord<K>, roster: &[u8], book: &mut Book) ->
     ensures same { SameRooms book.old book.new }
 {
     match judge(given, roster, book.view()) {
-        Err(r) => not_booked(r),
+        Err(r) => Booked::from(r),
         Ok(i) => K::enter(given, book, i),
     }
 }
 
 // A record booked into a sound book: 1 to 10, 13, 11, 12, 24, then what the book says.
-#[tactic(auto, unfolding(book::specs::Booking::book_read, book::specs::Booking::book_kind))]
+#[tactic(auto, unfolding(book::specs::Booking::book_read, book::specs::Booking::book_kind), using(crate::proofs::Stages::closing_so))]
 fn book_read(s: &[u8], roster: &[u8], book: &mut Book) -> Booked
     requires { sound (held book.old) ≡ true }
     ensures booked { outcome result (held book.new) ≡ book_read (judged s.now) s.now roster.now (held book.old) }
     ensures same { SameRooms book.old book.new }
 {
-    match judge_record(s) {
-        Err(r) => not_booked(Refused::Unread(r)),
-        Ok(_) => match kind_of(s) {
-            None => not_booked(Refused::NothingToBook),
-            Some(k) => match k {
-                Kind::Order => book_as(&ReadRecord::<Order>::of(s), roster, book),
-                Kind::Goods => book_as(&ReadRecord::<Goods>::of(s), roster, book),
-                Kind::Closing => not_booked(Refused::NothingToBook),
-                Kind::Report => book_as(&ReadRecord::<Report>::of(s), roster, book),
-            },
-        },
+    if let Err(r) = judge_record(s) {
+        return Booked::from(Refused::Unread(r));
     }
-}
-
-// Whether a lent roster has the right size and a lent book is sound.
-fn are_sound(roster: &[u8], lines: &[u8], slips: &[u8], used: &[usize; 2]) -> bool
-    ensures { result ≡ roster_sound roster.now && sound (lent lines.now slips.now used.now) }
-{
-    if !is_roster(roster) {
-        return false;
+    match kind_of(s) {
+        Some(Kind::Order) => book_as(&ReadRecord::<Order>::of(s), roster, book),
+        Some(Kind::Goods) => book_as(&ReadRecord::<Goods>::of(s), roster, book),
+        Some(Kind::Report) => book_as(&ReadRecord::<Report>::of(s), roster, book),
+        Some(Kind::Closing) => Booked::from(Refused::NothingToBook),
+        None => Booked::from(Refused::NothingToBook),
     }
-    is_sound(lines, slips, used)
 }
 
 // Books a record that meets a roster: 20, 1 to 10, 13, 11, 12, 24, then what the book says. A refusal changes nothing.
@@ -101,8 +88,8 @@ pub fn book(
 ) -> Booked
     ensures { outcome result (lent lines.new slips.new used.new) ≡ book s.now roster.now (lent lines.old slips.old used.old) }
 {
-    if !are_sound(roster, lines, slips, used) {
-        return not_booked(Refused::Unsound);
+    if !is_roster(roster) || !is_sound(lines, slips, used) {
+        return Booked::from(Refused::Unsound);
     }
     let mut book = Book { lines, slips, used };
     book_read(s, roster, &mut book)

@@ -11,7 +11,7 @@ ghost use Rattle.entering.specs.Held.{held, SameRooms};
 pub mod held;
 
 use crate::held::Book;
-use book::answer::{AGREED, Booked, done, with_agreed};
+use book::answer::{AGREED, Booked, Told};
 use cells::{bytes_at, part};
 use entry::line::{Line, Mark};
 use entry::report::{Message, expected_date};
@@ -77,7 +77,7 @@ pub fn enter_order(order: &ReadRecord<Order>, book: &mut Book, i: usize) -> Book
         order.copies,
     );
     book.used[0] += 1;
-    with_agreed(done(new_line(order.copies)), AGREED)
+    Told::from(new_line(order.copies)).with_agreed(AGREED)
 }
 
 // An accepted delivery adds a slip, and its copies to its line.
@@ -93,7 +93,7 @@ pub fn enter_goods(goods: &ReadRecord<Goods>, book: &mut Book, i: usize) -> Book
     let j = book.used[1];
     write_slip(book.slips, j, slip_key(goods.bytes), i, goods.copies);
     book.used[1] = j + 1;
-    with_agreed(done(l), same_article)
+    Told::from(l).with_agreed(same_article)
 }
 
 // An accepted report sets the mark, the message and the expected date.
@@ -109,5 +109,5 @@ pub fn enter_report(report: &ReadRecord<Report>, book: &mut Book, i: usize) -> B
     let date = bytes_at(report.bytes, EXPECTED);
     let l = book.line(i).with_report(mark, message, expected_date(date));
     write_report(book.lines, i, mark, message, date);
-    with_agreed(done(l), same_article)
+    Told::from(l).with_agreed(same_article)
 }

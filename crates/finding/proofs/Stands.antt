@@ -8,10 +8,11 @@ use lib.ListN.{length}
 use Rattle.cells.specs.Search.{first_from, all_from}
 use Rattle.cells.proofs.Searches.{found_at}
 use Rattle.std.specs.Prelude.{None, Some, Option, IfSome}
-use Rattle.entry.specs.Stored.{line_width, slip_width, most_copies, most_arrived, line_at, slip_line_at, key_is, slip_is, line_sound}
+use Rattle.entry.specs.Stored.{line_width, slip_width, most_copies, most_arrived, line_at, slip_line_at, key_is, line_sound}
 use Rattle.entry.proofs.Sound.{sound_bounded}
 use Rattle.book.specs.Lent.{Lent, most_lines, used_lines, used_slips, sound, find_line, find_slip, open_copies}
 use Rattle.book.proofs.Sounds.{sound_so}
+use Rattle.book.proofs.Finds.{slip_stands as found_slip}
 use Rattle.book.proofs.Opens.{open_below}
 use Rattle.finding.specs.Seen.{seen}
 use Rattle.finding.specs.declared.sound.SoundBook.{SoundBook}
@@ -39,10 +40,6 @@ line_used b key = go (first_from (key_is b.lines key) (used_lines b) 0) refl
     go None e = tt
     go (Some i) e = omega (arith, (found_at (key_is b.lines key) (used_lines b) 0 i e).1)
 
-slip_used : (b : Lent) (key : List ℕ) (j : ℕ) → find_slip b key ≡ Some j → j < used_slips b
-unfolding find_slip
-slip_used b key j e = omega (arith, (found_at (slip_is b.slips key) (used_slips b) 0 j e).1)
-
 module _ (b : SoundBook) where
   -- a used line
   module _ (i : ℕ) (l : i < used_lines (seen b.lent)) where
@@ -55,11 +52,10 @@ module _ (b : SoundBook) where
   -- a slip that is found, and its line
   module _ (key : List ℕ) (j : ℕ) (e : find_slip (seen b.lent) key ≡ Some j) where
     pub slip_stands : slip_width * j + slip_width ≤ length b.lent.slips.now
-    slip_stands = omega (arith, slips_in (seen b.lent) b.is_sound, slip_used (seen b.lent) key j e)
+    slip_stands = (found_slip (seen b.lent) b.is_sound key j e).0
 
     pub slip_line_stands : line_width * slip_line_at b.lent.slips.now j + line_width ≤ length b.lent.lines.now
-    slip_line_stands =
-        line_in (slip_line_at b.lent.slips.now j) ((sound_so (seen b.lent) b.is_sound).slip_names j (slip_used (seen b.lent) key j e))
+    slip_line_stands = (found_slip (seen b.lent) b.is_sound key j e).1
 
   -- a school has at most so many copies open
   pub open_most : (school : List ℕ) → open_copies (seen b.lent) school ≤ most_copies * most_lines

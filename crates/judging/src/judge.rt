@@ -89,7 +89,8 @@ impl Judged for Report {
     // 16.
     #[tactic(auto, unfolding(book::specs::Booking::line_key, book::specs::Booking::book_judged, book::specs::Booking::report_judged))]
     fn judge_in(report: &ReadRecord<Report>, _ceiling: u64, book: SoundBook) -> Verdict {
-        book.line_with(Report::key(report.bytes)).ok_or(Refused::NoLine)
+        book.line_with(Report::key(report.bytes))
+            .ok_or(Refused::NoLine)
     }
 }
 

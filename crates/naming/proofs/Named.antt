@@ -1,37 +1,20 @@
--- The keys, the article and the quantity that a record names are parts of its bytes, and the fields of keys have their lengths.
+-- The keys, the school, the article and the slip number that a record names are parts of its bytes.
 use mathlib.Core.Path.{◌≡◌, ◌∙◌, ap, ap₂, sym, refl}
-use mathlib.Core.Bool.{true, Bool}
-use mathlib.Core.List.{List, [], ◌∷◌, ◌++◌, append_assoc, append-nil}
-use Prim.Native.Nat.{ℕ, ◌+◌, ◌≤◌}
-use native.Mathlib.Omega.{arith}
-use lib.ListN.{length}
+use mathlib.Core.List.{List, ◌++◌, append_assoc, append-nil}
+use Prim.Native.Nat.{ℕ, ◌+◌}
 use lib.Seq.{slice}
-use Rattle.cells.specs.Bytes.{all, joined}
+use Rattle.cells.specs.Bytes.{joined}
 use Rattle.cells.proofs.Parts.{parts_join}
-use Rattle.record.specs.Layout.{layout, total, start_of, fixed_width}
+use Rattle.record.specs.Layout.{layout, total, start_of}
 use Rattle.record.specs.Values.{field_bytes}
-use Rattle.record.specs.declared.layout.Kind.{Kind}
 use Rattle.record.specs.declared.layout.Kind.TheVariants.{Order, Goods, Report}
-use Rattle.book.specs.Asked.{key_widths, are_wide}
-use Rattle.book.specs.Booking.{fields_in, key_fields, line_key, article_fields, article_in, slip_key, school_in, copies_in, nothing_to_book, no_reference}
-use Rattle.book.proofs.Fields.{fields_wide}
+use Rattle.book.specs.Booking.{key_fields, line_key, article_fields, article_in, slip_key, school_in, nothing_to_book}
 use Rattle.signs.specs.Class.{all_of}
-use Rattle.rules.specs.Values.{copies_of}
-use Rattle.rules.specs.declared.amount.Copies.{Copies}
 use Rattle.signs.specs.declared.Class.TheVariants.{Blank}
 
 -- a part and the part after it, before a rest
 join : (at n m : ℕ) (s rest : List ℕ) → slice at (at + n) s ++ (slice (at + n) (at + n + m) s ++ rest) ≡ slice at (at + (n + m)) s ++ rest
 join at n m s rest = sym (append_assoc (slice at (at + n) s) _ rest) ∙ ap (λ (p : List ℕ). p ++ rest) (parts_join at n m s)
-
--- fields of a record one after the other are its key, and have the key's lengths
-module _ (k : Kind) (s : List ℕ) {fs : List (List ℕ)} (e : fs ≡ fields_in k (key_fields k) s) where
-  pub joined_key : joined fs ≡ line_key k s
-  unfolding line_key
-  joined_key = ap joined e
-
-  pub wide_key : are_wide key_widths (fields_in k (key_fields k) s) ≡ true → are_wide key_widths fs ≡ true
-  wide_key h = ap (are_wide key_widths) e ∙ h
 
 module _ (s : List ℕ) where
   -- the article, with its qualifier
@@ -75,41 +58,7 @@ module _ (s : List ℕ) where
   slip_key_is =
       join 4 10 2 s _ ∙ join 4 12 10 s _ ∙ join 4 22 2 s _ ∙ join 4 24 8 s _ ∙ join 4 32 10 s _ ∙ join 4 42 4 s _ ∙ append-nil _
 
-  -- the lengths of a key's fields in a record that is long enough
-  pub order_wide : fixed_width Order ≤ length s → are_wide key_widths (fields_in Order (key_fields Order) s) ≡ true
-  unfolding key_fields layout all
-  order_wide h = fields_wide Order s h (1 ∷ 2 ∷ 3 ∷ 4 ∷ 6 ∷ []) refl
-
-  pub goods_wide : fixed_width Goods ≤ length s → are_wide key_widths (fields_in Goods (key_fields Goods) s) ≡ true
-  unfolding key_fields layout all
-  goods_wide h = fields_wide Goods s h (3 ∷ 4 ∷ 1 ∷ 2 ∷ 8 ∷ []) refl
-
-  pub report_wide : fixed_width Report ≤ length s → are_wide key_widths (fields_in Report (key_fields Report) s) ≡ true
-  unfolding key_fields layout all
-  report_wide h = fields_wide Report s h (3 ∷ 4 ∷ 1 ∷ 2 ∷ 6 ∷ []) refl
-
--- the quantity, and whether a field is blank, by their places
-module _ (s : List ℕ) where
-  pub order_copies_is : copies_in Order s ≡ copies_of (slice 61 65 s)
-  unfolding copies_in field_bytes start_of total layout
-  order_copies_is = refl
-
-  pub goods_copies_is : copies_in Goods s ≡ copies_of (slice 75 79 s)
-  unfolding copies_in field_bytes start_of total layout
-  goods_copies_is = refl
-
-  pub order_blank_is : no_reference Order s ≡ all_of Blank (slice 36 46 s)
-  unfolding no_reference field_bytes start_of total layout
-  order_blank_is = refl
-
-  pub goods_blank_is : no_reference Goods s ≡ all_of Blank (slice 50 60 s)
-  unfolding no_reference field_bytes start_of total layout
-  goods_blank_is = refl
-
-  pub report_blank_is : no_reference Report s ≡ all_of Blank (slice 38 48 s)
-  unfolding no_reference field_bytes start_of total layout
-  report_blank_is = refl
-
+  -- whether the slip number is blank
   pub slip_blank_is : nothing_to_book Goods s ≡ all_of Blank (slice 36 46 s)
   unfolding nothing_to_book field_bytes start_of total layout
   slip_blank_is = refl

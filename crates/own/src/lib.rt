@@ -5,7 +5,7 @@ ghost use Rattle.std.specs.Prelude.{◌≡◌, ◌≤◌, length};
 ghost use Rattle.record.specs.Layout.{kind_of};
 ghost use Rattle.book.specs.Lent.{lent};
 ghost use Rattle.book.specs.Booking.{outcome};
-ghost use Rattle.own.specs.Own.{parties_end, account_by, own_entry, book_own};
+ghost use Rattle.own.specs.Own.{parties_end, account_by, own_entry, book_own, NeverInTheWay};
 
 use book::answer::Booked;
 use booking::book;
@@ -51,4 +51,11 @@ pub fn book_own(s: &[u8], lines: &mut [u8], slips: &mut [u8], used: &mut [usize;
     }
     let entry = own_entry(s);
     book(s, &entry, lines, slips, used)
+}
+
+// The theorem that the roster is never in a record's way; there is nothing to run.
+#[tactic(auto, using(crate::proofs::Own::never_in_the_way))]
+pub fn never_in_the_way()
+    ensures { NeverInTheWay }
+{
 }

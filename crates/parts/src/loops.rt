@@ -17,60 +17,68 @@ use rules::rule::{Rule, Texts, keeps_rule};
 
 // The fields of a loop.
 pub const LOOP_FIELDS: usize = 10;
-// The ID that a loop begins with.
+// The ID that a loop begins with, with the tax mark.
 pub const PART_ID: usize = 1019;
+// A price.
+pub const AMOUNT_ID: usize = 1029;
+pub const PRICE_QUALIFIER_ID: usize = 1030;
+pub const CURRENCY_ID: usize = 1032;
+// The article, its qualifier, and the medium.
+pub const ARTICLE_ID: usize = 1101;
+pub const ARTICLE_QUALIFIER_ID: usize = 1102;
+pub const MEDIUM_ID: usize = 1151;
 // The most parts of a bundle.
 pub const MOST_PARTS: usize = 8;
 
 const BUNDLE_MARK: u8 = 54;
 
 // A field of a loop: its ID, and what the loop asks of its content beside the table of contents.
-#[derive(Clone, Copy)]
+#[derive(Clone, Copy, PartialEq, Eq, Debug)]
 pub struct Member {
     pub id: usize,
     pub rule: Rule,
 }
 
 // The fields of a loop: tax mark; amount, qualifier and currency of the net price, and of the list price; article and its qualifier; medium.
-pub const LOOP: [Member; LOOP_FIELDS] = [
+const LOOP: [Member; LOOP_FIELDS] = [
     Member {
         id: PART_ID,
         rule: Rule::Free,
     },
     Member {
-        id: 1029,
+        id: AMOUNT_ID,
         rule: Rule::Free,
     },
     Member {
-        id: 1030,
+        id: PRICE_QUALIFIER_ID,
         rule: Rule::OneOf(Texts::NetPrice),
     },
     Member {
-        id: 1032,
+        id: CURRENCY_ID,
         rule: Rule::Free,
     },
     Member {
-        id: 1029,
+        id: AMOUNT_ID,
         rule: Rule::Free,
     },
     Member {
-        id: 1030,
+        id: PRICE_QUALIFIER_ID,
         rule: Rule::OneOf(Texts::ListPrice),
     },
     Member {
-        id: 1032,
+        id: CURRENCY_ID,
         rule: Rule::Free,
     },
     Member {
-        id: 1101,
+        id: ARTICLE_ID,
         rule: Rule::Free,
     },
     Member {
-        id: 1102,
+        id: ARTICLE_QUALIFIER_ID,
         rule: Rule::Free,
     },
     Member {
-        id: 1151,
+        id: MEDIUM_ID,
         rule: Rule::Free,
     },
 ];
@@ -90,7 +98,7 @@ pub fn is_bundle(s: &[u8]) -> bool
 }
 
 // The field of a loop with an index.
-pub fn member_at(i: usize) -> Member
+fn member_at(i: usize) -> Member
     requires { i < loop_fields }
     ensures { result ≡ get_or loop i no_member }
 {

@@ -1,5 +1,5 @@
 // Prices, discounts and copies, kept apart from each other.
-ghost use Rattle.std.specs.Prelude.{◌≡◌, ℕ, ◌≤◌, length};
+ghost use Rattle.std.specs.Prelude.{◌≡◌, ℕ, ◌≤◌, length, Some, decimal};
 ghost use Rattle.rules.specs.Number.{number};
 ghost use Rattle.rules.specs.Values.{price, discount, copies};
 
@@ -60,7 +60,10 @@ pub fn amount_of<A: Amount>(s: &[u8]) -> A
 }
 
 impl fmt::Display for Copies {
+    ghost output = { λ c. Some (decimal c.0) };
+
     fn fmt<W: fmt::Write>(&self, f: &mut fmt::Formatter<W>) -> fmt::Result {
-        write!(f, "{}", self.0)
+        let n = self.0;
+        write!(f, "{n}")
     }
 }

@@ -4,7 +4,7 @@ ghost use Rattle.entry.specs.Stored.{slip_width};
 
 use crate::{SLIP_COPIES_AT, SLIP_KEY_WIDTH, SLIP_WIDTH};
 use cells::little::get;
-use cells::same;
+use entry::key::field_is;
 use rules::amount::Copies;
 
 // The slip with an index, all of it within the lent bytes.
@@ -19,12 +19,11 @@ impl<'a> StoredSlip<'a> {
     ghost use Rattle.entry.specs.Stored.{slip_is, slip_line_at, slip_copies_at};
 
     // Whether it has a key.
-    #[tactic(auto, unfolding(entry::specs::Stored::slip_is, entry::specs::Stored::slip_key_at), using(cells::proofs::Parts::part_is))]
+    #[tactic(auto, unfolding(entry::specs::Stored::slip_is, entry::specs::Stored::slip_key_at))]
     pub fn key_is(self, key: &[u8]) -> bool
         ensures { result ≡ slip_is self.entry.slips.now key.now self.entry.index }
     {
-        let at = SLIP_WIDTH * self.index;
-        same(&self.slips[at..at + SLIP_KEY_WIDTH], key)
+        field_is::<SLIP_KEY_WIDTH>(self.slips, SLIP_WIDTH * self.index, key)
     }
 
     // The index of its line.

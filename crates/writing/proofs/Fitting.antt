@@ -10,19 +10,20 @@ use lib.Dec.{eqb, ltb}
 use lib.ListN.{length, drop}
 use lib.Seq.{sets, sets-eq}
 use Rattle.cells.specs.Bytes.{pick}
+use Rattle.cells.proofs.Bools.{split}
 use Rattle.record.specs.Layout.{most_bytes, most_fields, layout, fixed_width, kind_of}
 use Rattle.record.specs.Contents.{group_kept}
 use Rattle.record.specs.Read.{entry_width}
 use Rattle.record.specs.declared.layout.Kind.{Kind}
 use Rattle.std.specs.Prelude.{Err, None, Ok, Option, Some}
 use Rattle.record.proofs.Layouts.{total_most}
-use Rattle.writing.specs.Widths.{width_after, all_inside}
-use Rattle.writing.specs.Write.{◌next◌, first_faulty, fixed_judged, entries, optional_of, next_id, entry_kept, fields_judged, record_text, length_judged, rest_judged, write_judged}
+use Rattle.writing.specs.Widths.{width_after, capped, all_inside}
+use Rattle.writing.specs.Write.{◌next◌, first_faulty, fixed_judged, entries, optional_of, next_id, entry_kept, fields_judged, record_text, length_judged, lent_judged, rest_judged, write_judged}
 use Rattle.writing.specs.declared.answer.Refusal.{Refusal}
 use Rattle.writing.specs.Verdicts.{Verdict}
 use Rattle.writing.specs.declared.entries.Entry.{Entry}
 use Rattle.writing.proofs.Contents.{kept_inside}
-use Rattle.writing.proofs.Widths.{record_wide}
+use Rattle.writing.proofs.Widths.{record_wide, capped_judged}
 
 -- a test that refuses where it holds, or where it does not, and does not refuse
 refuses_true : (b : Bool) (r : Refusal) (v : Verdict) (n : ℕ) → pick b (Err r) v ≡ Ok n → (b ≡ false) × (v ≡ Ok n)
@@ -134,3 +135,33 @@ module _ (fixed table : List ℕ) (count : ℕ) (contents out : List ℕ) (n : �
       let f = fitting.1 in
       sets-eq (record_text fixed (optional_of contents (entries count table))) out 0 (rw f.long (omega arith))
       ∙ rw (zero-add, f.long)
+
+-- the stages one after the other, the length as it is reckoned
+pub next_err : (r : Refusal) (b : Verdict) → ◌≡◌ {A = Verdict} (Err r next b) (Err r)
+unfolding ◌next◌
+next_err r b = refl
+
+pub next_ok : (n : ℕ) (b : Verdict) → ◌≡◌ {A = Verdict} (Ok n next b) b
+unfolding ◌next◌
+next_ok n b = refl
+
+module _ (k : Kind) (fixed table : List ℕ) (count : ℕ) (contents out : List ℕ) where
+  reckoned_judged : (v : Verdict) → v ≡ fields_judged k contents None 0 (entries count table)
+      → (v next length_judged (length (record_text fixed (optional_of contents (entries count table)))) out)
+      ≡ (v next length_judged (capped most_bytes (width_after (length fixed) (entries count table))) out)
+  unfolding ◌next◌
+  reckoned_judged (Err r) e = refl
+  reckoned_judged (Ok m) e =
+      let es = entries count table in
+      rw (record_wide fixed contents es (fields_inside k contents None 0 es m (sym e))) (sym (capped_judged (width_after (length fixed) es) out))
+
+  pub rest_is : rest_judged (Some k) fixed table count contents out
+      ≡ (lent_judged most_fields table count
+      next (fields_judged k contents None 0 (entries count table)
+      next length_judged (capped most_bytes (width_after (length fixed) (entries count table))) out))
+  unfolding rest_judged lent_judged ◌next◌
+  rest_is =
+      split (ltb most_fields count) (λ e. rw e)
+      (λ e. rw e (split (ltb (length table) (count * entry_width)) (λ g. rw g) (λ g. rw g (reckoned_judged (fields_judged k contents None 0 (entries count table)) refl))))
+
+pub ruleset staged = (rest_is, next_err, next_ok)

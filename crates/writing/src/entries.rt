@@ -1,5 +1,5 @@
 // The entries of a table, judged as fields to be written.
-ghost use Rattle.std.specs.Prelude.{◌≡◌, ◌-◌, ◌*◌, ◌≤◌, ◌<◌, drop, Ok, Err, MatchResult, None};
+ghost use Rattle.std.specs.Prelude.{◌≡◌, length, ◌-◌, ◌*◌, ◌≤◌, ◌<◌, drop, Ok, Err, MatchResult, None};
 ghost use Rattle.cells.specs.Bytes.{all};
 ghost use Rattle.record.specs.Layout.{most_bytes, most_fields};
 ghost use Rattle.record.specs.Contents.{content_kept};
@@ -178,14 +178,15 @@ impl<'a> InsideFields<'a> {
         }
     }
 
-    // The content of the field with an index.
+    // The content of the field with an index, as long as its entry says.
     #[tactic(auto, unfolding(crate::specs::Write::content_in), using(crate::proofs::Halves::inside_at))]
     pub fn content(self, i: usize) -> &'a [u8]
         requires { i < self.count }
-        ensures { result.now ≡ content_in self.entry.contents.now (entry_of (drop (i * entry_width) self.entry.table.now)) }
+        ensures content { result.now ≡ content_in self.entry.contents.now (entry_of (drop (i * entry_width) self.entry.table.now)) }
+        ensures wide { length result.now ≡ (entry_of (drop (i * entry_width) self.entry.table.now)).width }
     {
         let e = self.lent().entry(i);
-        part(self.contents, e.place, e.place + e.width)
+        &self.contents[e.place..e.place + e.width]
     }
 
     // The fields from the one with an index on.

@@ -14,12 +14,11 @@ pub fn field_holding(k: Kind, place: usize) -> usize
 {
     let fields = layout(k);
     let mut left = place;
-    for i in 0..fields.len() {
-        let size = fields[i].size;
-        if left < size {
+    for (i, field) in fields.iter().enumerate() {
+        if left < field.size {
             return i;
         }
-        left -= size;
+        left -= field.size;
     }
     fields.len()
 }

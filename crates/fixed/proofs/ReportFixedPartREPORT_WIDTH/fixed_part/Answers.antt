@@ -1,0 +1,23 @@
+-- `fixed_part` of a report meets its contract: each field stands behind the one before, and together they fill the array.
+use mathlib.Core.Path.{refl}
+use native.Mathlib.Omega.{arith}
+use Rattle.writing.specs.Typed.{report_fields, report_bytes}
+use Rattle.writing.proofs.Decimals.{number_length}
+use Rattle.writing.proofs.Days.{expected_length}
+use Rattle.cells.proofs.Filled.{filled_end, filled_next, filled_two, filled_whole}
+use Rattle.fixed.proofs.ReportFixedPartREPORT_WIDTH.fixed_part.Goals as goal
+
+pub returns : goal.returns
+unfolding report_bytes report_fields
+returns c =
+    filled_whole {ps = report_fields c.args.self}
+    (filled_next c.paste_at.ensures refl
+    (filled_two {v = 10} {w = 2} c.put_party.ensures (omega arith) (omega arith)
+    (filled_two {v = 10} {w = 2} c.put_party-2.ensures (omega arith) (omega arith)
+    (filled_next {w = 10} c.paste_at-2.ensures (omega arith)
+    (filled_next {w = 10} c.paste_at-3.ensures (omega arith)
+    (filled_two {v = 13} {w = 2} c.put_article.ensures (omega arith) (omega arith)
+    (filled_next c.put_number.ensures (number_length 3 _)
+    (filled_next c.put_byte.ensures refl
+    (filled_next c.put_expected.ensures (expected_length _)
+    (filled_next c.paste_at-4.ensures refl filled_end))))))))))
