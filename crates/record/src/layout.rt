@@ -1,14 +1,12 @@
 // The kinds of records, and the fixed part of each as data.
 ghost use Rattle.std.specs.Prelude.{◌≡◌, ◌+◌, drop};
-ghost use Rattle.record.specs.Layout.{head, layout, fixed_width, start_of, kind_of, first_broken};
+ghost use Rattle.record.specs.Layout.{layout, fixed_width, start_of, kind_of, first_broken};
 
-use crate::places::{
-    DATE_START, PARTIES_END, RECIPIENT, RECIPIENT_QUALIFIER, SENDER, SENDER_QUALIFIER,
-};
+use crate::places::DATE_START;
 use cells::{part, same};
 use rules::day::Day;
-use rules::rule::{Rule, Texts, is_one_of, keeps_rule};
-use signs::{Class, is_padded, of_class};
+use rules::rule::{Rule, Texts, keeps_rule};
+use signs::{Class, of_class};
 
 // A record is at most this long without its line end.
 pub const MOST_BYTES: usize = 1024;
@@ -28,9 +26,6 @@ pub const ORDER_FIELDS: usize = 11;
 pub const DELIVERY_FIELDS: usize = 17;
 
 pub const REPORT_FIELDS: usize = 13;
-
-// The fields that every record begins with.
-const HEAD_FIELDS: usize = 5;
 
 // A fixed field: its length and its rule.
 #[derive(Clone, Copy, PartialEq, Eq, Debug)]
@@ -321,40 +316,14 @@ pub fn start_of(k: Kind, index: usize) -> usize
     at
 }
 
-// The index of the first that breaks its rule of the fields that every record begins with, or their number; the kind breaks none.
-#[tactic(auto, using(crate::proofs::Layouts::head_judged))]
-fn head_broken(s: &[u8]) -> usize
-    ensures { result ≡ first_broken head s.now }
-{
-    if !is_padded(Class::Account, 1, 10, part(s, SENDER, SENDER_QUALIFIER)) {
-        return 1;
-    }
-    if !is_one_of(Texts::Party, part(s, SENDER_QUALIFIER, RECIPIENT)) {
-        return 2;
-    }
-    if !is_padded(
-        Class::Account,
-        1,
-        10,
-        part(s, RECIPIENT, RECIPIENT_QUALIFIER),
-    ) {
-        return 3;
-    }
-    if !is_one_of(Texts::Party, part(s, RECIPIENT_QUALIFIER, PARTIES_END)) {
-        return 4;
-    }
-    HEAD_FIELDS
-}
-
-// The same of the fields after them, by the layout.
-#[tactic(auto, using(crate::proofs::Layouts::total_at, crate::proofs::Layouts::broken_at, crate::proofs::Layouts::head_room), unfolding(crate::specs::Layout::layout, crate::specs::Layout::total, crate::specs::Layout::first_broken))]
-fn rest_broken(k: Kind, s: &[u8]) -> usize
-    ensures { result ≡ 5 + first_broken (drop 5 (layout k)) (drop 28 s.now) }
+// The index of the first fixed field that breaks its rule, or the number of fields where none does.
+#[tactic(auto, using(crate::proofs::Layouts::total_at, crate::proofs::Layouts::broken_at, crate::proofs::Layouts::total_most), unfolding(crate::specs::Layout::first_broken))]
+pub fn first_broken(k: Kind, s: &[u8]) -> usize
+    ensures { result ≡ first_broken (layout k) s.now }
 {
     let fields = layout(k);
-    let mut at = PARTIES_END;
-    for i in HEAD_FIELDS..fields.len() {
-        let f = fields[i];
+    let mut at: usize = 0;
+    for (i, f) in fields.iter().enumerate() {
         let end = at + f.size;
         if !keeps_rule(f.rule, s, end, part(s, at, end)) {
             return i;
@@ -362,18 +331,6 @@ fn rest_broken(k: Kind, s: &[u8]) -> usize
         at = end;
     }
     fields.len()
-}
-
-// The index of the first fixed field that breaks its rule, or the number of fields where none does.
-#[tactic(auto, using(crate::proofs::Layouts::found_first))]
-pub fn first_broken(k: Kind, s: &[u8]) -> usize
-    ensures { result ≡ first_broken (layout k) s.now }
-{
-    let broken = head_broken(s);
-    if broken < HEAD_FIELDS {
-        return broken;
-    }
-    rest_broken(k, s)
 }
 
 #[tactic(auto, unfolding(crate::specs::Layout::kind_of))]
