@@ -1,4 +1,4 @@
--- The sums of demand 3 in the calls' own words: of a book that accepted records give, what the call by key answers for each order adds up.
+-- The sums of copies in the calls' own words: of a book that accepted records give, what the call by key answers for each order adds up.
 use mathlib.Core.Path.{◌≡◌, ◌∙◌, ap, ap₂, sym, refl}
 use mathlib.Core.Bool.{Bool, true, false, ◌&&◌}
 use mathlib.Core.Logic.{◌⊎◌, inl, inr}

@@ -1,4 +1,4 @@
--- What demand 3 reads out of records, computed on the samples of RULES 12: kinds, key fields, copies, schools, and the line that a key's own records make.
+-- What the promises read out of records, computed on the samples of RULES 12: kinds, key fields, copies, schools, and the line that a key's own records make.
 use mathlib.Core.Path.{◌≡◌, refl}
 use mathlib.Core.Bool.{true, false}
 use mathlib.Core.List.{List, [], ◌∷◌}

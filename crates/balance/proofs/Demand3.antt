@@ -1,4 +1,4 @@
--- Demand 3 in the calls' own words, for any rooms and any byte strings; and the school alone.
+-- What holds in the calls' own words, for any rooms and any byte strings; and the school alone.
 use mathlib.Core.Path.{◌≡◌, ◌∙◌, ap, sym, refl}
 use mathlib.Core.Bool.{Bool, true, false}
 use mathlib.Core.Logic.{◌⊎◌, inl, inr}
@@ -166,7 +166,6 @@ module _ (lines slips : List ℕ) (records : List Met) where
         alone_answers = alone_answers;
       }
 
--- demand 3
 pub demand3 : Demand3
 demand3 =
     record {

@@ -1,4 +1,4 @@
--- Records given one after the other to the booking call: the told book is what the accepted ones give, and keeps demand 3 on lists.
+-- Records given one after the other to the booking call: the told book is what the accepted ones give, and keeps the promises on lists.
 use mathlib.Core.Path.{◌≡◌, ◌∙◌, ap, subst, sym, refl}
 use mathlib.Core.Bool.{true, false, false≢true}
 use mathlib.Core.Logic.{◌⊎◌, inl, inr}
@@ -94,7 +94,7 @@ pub fresh_told : (rooms : Rooms) (lines slips : List ℕ) → bookings rooms emp
 unfolding bookings told used_lines used_slips listed
 fresh_told rooms lines slips = refl
 
--- demand 3 of the told book
+-- the promises of the told book
 pub told_demand3 : ToldDemand3
 told_demand3 lines slips records =
     let g : Given = fresh lines slips in

@@ -1,4 +1,4 @@
--- The two calls that demand 3 speaks of, as their contracts fix them.
+-- The two calls that the promises speak of, as their contracts fix them.
 use Rattle.std.specs.Prelude.{ℕ, List}
 use Rattle.book.specs.Lent.{Lent}
 use Rattle.book.specs.Booking.{Outcome, book}

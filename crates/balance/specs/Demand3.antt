@@ -1,4 +1,4 @@
--- Demand 3 in the calls' own words: what holds after any byte strings, each with the roster that it met, were given, one after the other, to the booking call. It speaks of what the booking call and the call by key answer, and of how a record's key fields and copies stand in it; of nothing else in the book.
+-- What holds, in the calls' own words, after any byte strings, each with the roster that it met, were given, one after the other, to the booking call. It speaks of what the booking call and the call by key answer, and of how a record's key fields and copies stand in it; of nothing else in the book.
 use Rattle.std.specs.Prelude.{ℕ, ◌+◌, ◌≤◌, ◌≡◌, Bool, true, false, ◌&&◌, List, [], ◌∷◌, ◌++◌, eqb, length, take, None, Option, Some}
 use Rattle.cells.specs.Bytes.{pick, same, joined}
 use Rattle.rules.specs.Values.{copies, expected_of}

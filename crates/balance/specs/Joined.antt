@@ -76,7 +76,7 @@ CeilingHeld = (s : Met) (b : Lent) (ceiling : ℕ) → length b.used ≡ 2 → i
 abbrev pub state_told : Given → State
 state_told g = record { book = told g.book; accepted = map fit_of g.accepted }
 
--- demand 3 of the told book, from which its sentences in the calls' words follow
+-- what the rule on lists promises, of the told book; the sentences in the calls' words follow from it
 abbrev pub ToldDemand3 : Type 0
 ToldDemand3 = (lines slips : List ℕ) (records : List Met)
     → Promise3 (rooms_of (fresh lines slips).book) (state_told (give_all (fresh lines slips) records))

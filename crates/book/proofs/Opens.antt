@@ -1,14 +1,14 @@
--- The open copies of a school in a sound book: as the code sums them, and how many they can be.
+-- How many the open copies of a school in a sound book can be.
 use mathlib.Core.Path.{◌≡◌}
 use mathlib.Core.Bool.{true}
 use mathlib.Core.List.{List}
 use Prim.Native.Nat.{ℕ, zero, suc, ◌+◌, ◌*◌, ◌≤◌, ◌<◌}
 use native.Mathlib.Omega.{arith}
-use lib.ListN.{length, get_or}
-use Rattle.cells.specs.Search.{all_from, sum_from}
-use Rattle.entry.specs.Stored.{line_width, most_copies, open_at, line_sound}
+use lib.ListN.{get_or}
+use Rattle.cells.specs.Search.{sum_from}
+use Rattle.entry.specs.Stored.{most_copies, open_at}
 use Rattle.entry.proofs.Sound.{open_bounded}
-use Rattle.book.specs.Lent.{lent, used_lines, most_lines, sound, open_copies}
+use Rattle.book.specs.Lent.{lent, used_lines, most_lines, sound}
 use Rattle.book.proofs.Sounds.{sound_so}
 
 -- a sum of figures that are each at most those of one order
@@ -19,24 +19,10 @@ sum_most f (suc n) i h =
     omega (arith, h i (omega arith) (omega arith), sum_most f n (suc i) (λ j a b. h j (omega arith) (omega arith)))
 
 -- of a sound book
-module _ (lines slips used : List ℕ) where
-  -- the code may sum over its used lines
-  pub lines_open : sound (lent lines slips used) ≡ true
-      → (line_width * get_or used 0 0 ≤ length lines) × (get_or used 0 0 ≤ most_lines) × (all_from (line_sound lines) (get_or used 0 0) 0 ≡ true)
+module _ (lines slips used school : List ℕ) {r : ℕ} where
+  pub open_below : sound (lent lines slips used) ≡ true → r ≡ sum_from (open_at lines school) (get_or used 0 0) 0 → r ≤ most_copies * most_lines
   unfolding used_lines
-  lines_open h =
+  open_below h e =
       let s = sound_so (lent lines slips used) h in
-      (s.lines_in, omega (arith, s.lines_fit, s.lines_most), s.all_sound)
-
-  module _ (school : List ℕ) {r : ℕ} where
-    pub open_below : sound (lent lines slips used) ≡ true → r ≡ sum_from (open_at lines school) (get_or used 0 0) 0 → r ≤ most_copies * most_lines
-    unfolding used_lines
-    open_below h e =
-        let s = sound_so (lent lines slips used) h in
-        let most = sum_most (open_at lines school) (get_or used 0 0) 0 (λ j a b. open_bounded lines school j (s.line_sound_law j (omega arith))) in
-        omega (arith, e, most, s.lines_fit, s.lines_most)
-
-    -- and the sum is the school's open copies
-    pub open_sum : r ≡ sum_from (open_at lines school) (get_or used 0 0) 0 → r ≡ open_copies (lent lines slips used) school
-    unfolding open_copies used_lines
-    open_sum e = e
+      let most = sum_most (open_at lines school) (get_or used 0 0) 0 (λ j a b. open_bounded lines school j (s.line_sound_law j (omega arith))) in
+      omega (arith, e, most, s.lines_fit, s.lines_most)

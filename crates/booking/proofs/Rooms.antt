@@ -9,39 +9,48 @@ use Rattle.record.specs.Layout.{fixed_width, kind_of}
 use Rattle.record.specs.Read.{judged}
 use Rattle.std.specs.Prelude.{Ok, Some}
 use Rattle.record.specs.declared.layout.Kind.{Kind}
-use Rattle.record.specs.declared.layout.Kind.TheVariants.{Order, Goods, Report}
-use Rattle.reader.proofs.Fitting.{fits_wide}
-use Rattle.entry.specs.Stored.{line_width, slip_width, most_arrived, line_at}
-use Rattle.book.specs.Lent.{lent, used_lines, used_slips, sound}
+use Rattle.record.specs.declared.layout.Kind.TheVariants.{Order, Goods, Closing, Report}
+use Rattle.reader.proofs.Fitting.{Fitting, fitting, fits_wide}
+use Rattle.entry.specs.Stored.{line_width, slip_width, most_copies, most_arrived, line_at}
+use Rattle.book.specs.Lent.{Lent, used_lines, used_slips, sound}
 use Rattle.book.specs.Booking.{line_key, copies_in, fit_judged}
+use Rattle.book.proofs.Fields.{order_copies, goods_copies}
 use Rattle.book.proofs.Sounds.{sound_so}
 use Rattle.book.proofs.Finds.{line_stands}
+use Rattle.booking.specs.Fits.{Fits}
 use Rattle.booking.proofs.Stages.{order_fits, goods_fits, report_fits_law}
 
 -- a record that fits has its room in a sound book
-module _ (s roster lines slips used : List ℕ) (h : sound (lent lines slips used) ≡ true) (i : ℕ) where
-  pub order_room : fit_judged Order s roster (lent lines slips used) ≡ Ok i → (line_width * i + line_width ≤ length lines) × (get_or used 0 0 < 512)
+module _ (s : List ℕ) (b : Lent) (i : ℕ) where
+  pub order_room : Fits Order s b i → (line_width * i + line_width ≤ length b.lines) × (get_or b.used 0 0 < 512)
   unfolding used_lines
-  order_room e =
-      let f = order_fits s roster (lent lines slips used) i e in
-      let b = sound_so (lent lines slips used) h in
-      (omega (arith, f.next, f.room, b.lines_room), omega (arith, f.room, b.lines_most))
+  order_room q =
+      let f = order_fits s b i q in
+      let h = sound_so b q.is_sound in
+      (omega (arith, f.next, f.room, h.lines_room), omega (arith, f.room, h.lines_most))
 
-  pub goods_room : fit_judged Goods s roster (lent lines slips used) ≡ Ok i
-      → (line_width * i + line_width ≤ length lines) × (slip_width * get_or used 1 0 + slip_width ≤ length slips) × (get_or used 1 0 < 1024) × ((line_at lines i).arrived.0 + (copies_in Goods s).0 ≤ most_arrived)
+  pub goods_room : Fits Goods s b i
+      → (line_width * i + line_width ≤ length b.lines) × (slip_width * get_or b.used 1 0 + slip_width ≤ length b.slips) × (get_or b.used 1 0 < 1024) × ((line_at b.lines i).arrived.0 + (copies_in Goods s).0 ≤ most_arrived)
   unfolding used_slips
-  goods_room e =
-      let f = goods_fits s roster (lent lines slips used) i e in
-      let b = sound_so (lent lines slips used) h in (
-        (line_stands (lent lines slips used) h (line_key Goods s) i f.found).0,
-        omega (arith, f.room, b.slips_room),
-        omega (arith, f.room, b.slips_most),
+  goods_room q =
+      let f = goods_fits s b i q in
+      let h = sound_so b q.is_sound in (
+        (line_stands b q.is_sound (line_key Goods s) i f.found).0,
+        omega (arith, f.room, h.slips_room),
+        omega (arith, f.room, h.slips_most),
         f.within,
       )
 
-  pub report_room : fit_judged Report s roster (lent lines slips used) ≡ Ok i → line_width * i + line_width ≤ length lines
-  report_room e = (line_stands (lent lines slips used) h (line_key Report s) i (report_fits_law s roster (lent lines slips used) i e)).0
+  pub report_room : Fits Report s b i → line_width * i + line_width ≤ length b.lines
+  report_room q = (line_stands b q.is_sound (line_key Report s) i (report_fits_law s b i q)).0
 
--- a record that is read holds its fixed part
-pub fixed_wide : (k : Kind) (s : List ℕ) (n : ℕ) → kind_of s ≡ Some k → judged s ≡ Ok n → fixed_width k ≤ length s
-fixed_wide k s n g e = omega (arith, fits_wide k s n g e)
+-- a record that is read holds its fixed part, and its quantity has at most four digits
+few : (k : Kind) (s : List ℕ) (n : ℕ) → Fitting k s n → (copies_in k s).0 ≤ most_copies
+unfolding copies_in
+few Order s n f = order_copies s n f
+few Goods s n f = goods_copies s n f
+few Closing s n f = omega arith
+few Report s n f = omega arith
+
+pub read_so : (k : Kind) (s : List ℕ) (n : ℕ) → kind_of s ≡ Some k → judged s ≡ Ok n → (fixed_width k ≤ length s) × ((copies_in k s).0 ≤ most_copies)
+read_so k s n g e = (omega (arith, fits_wide k s n g e), few k s n (fitting k s n g e))

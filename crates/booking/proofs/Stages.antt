@@ -1,4 +1,4 @@
--- The stages of booking, by the tests that the code makes, and where a record that fits is entered.
+-- Where a record that fits is entered, kind by kind.
 use mathlib.Core.Path.{◌≡◌, ◌∙◌, ap, sym, refl}
 use mathlib.Core.Bool.{Bool, true, false, ◌&&◌}
 use mathlib.Core.List.{List}
@@ -21,54 +21,11 @@ use Rattle.book.specs.Booking.{line_key, slip_key, school_in, copies_in, nothing
 use Rattle.book.specs.declared.answer.Refused.{Refused}
 use Rattle.book.specs.declared.answer.Refused.TheVariants.{Unsound, Unread, NothingToBook, NoCopies, NoReference, SlipBooked, SlipDiffers}
 use Rattle.book.specs.Verdicts.{Verdict}
-
--- a book that passes the test with its roster is sound
-pub book_sound : (roster : List ℕ) (b : Lent) → roster_sound roster && sound b ≡ true → sound b ≡ true
-book_sound roster b h = and_right (roster_sound roster) (sound b) h
-
--- 20, 1 to 10, then by the kind
-module _ (s roster : List ℕ) (b : Lent) where
-  pub book_unsound : roster_sound roster && sound b ≡ false → book s roster b ≡ outcome (not_booked Unsound) b
-  unfolding book
-  book_unsound h = rw h
-
-  module _ (h : roster_sound roster && sound b ≡ true) where
-    pub book_unread : (r : Refusal) → judged s ≡ Err r → book s roster b ≡ outcome (not_booked (Unread r)) b
-    unfolding book book_read
-    book_unread r e = rw (h, e)
-
-    module _ (n : ℕ) (e : judged s ≡ Ok n) where
-      pub book_unknown : kind_of s ≡ None → book s roster b ≡ outcome (not_booked NothingToBook) b
-      unfolding book book_read book_kind
-      book_unknown k = rw (h, e, k)
-
-      pub book_known : (k : Kind) → kind_of s ≡ Some k → book s roster b ≡ book_as k s roster b
-      unfolding book book_read book_kind
-      book_known k g = rw (h, e, g)
-
--- a record of a kind, by what the book says of it
-module _ (k : Kind) (s roster : List ℕ) (b : Lent) where
-  pub refused_so : (r : Refused) → fit_judged k s roster b ≡ Err r → book_as k s roster b ≡ outcome (not_booked r) b
-  unfolding book_as settled
-  refused_so r e = rw e
-
-  pub entered_so : (i : ℕ) → fit_judged k s roster b ≡ Ok i → book_as k s roster b ≡ entered_as k s b i
-  unfolding book_as settled
-  entered_so i e = rw e
+use Rattle.booking.specs.Fits.{Fits}
 
 pub closing_so : (s roster : List ℕ) (b : Lent) → book_as Closing s roster b ≡ outcome (not_booked NothingToBook) b
 unfolding book_as settled fit_judged nothing_to_book
 closing_so s roster b = refl
-
--- a closing record is not booked
-pub book_closing : (s roster : List ℕ) (b : Lent) → roster_sound roster && sound b ≡ true → (n : ℕ) → judged s ≡ Ok n → kind_of s ≡ Some Closing
-    → book s roster b ≡ outcome (not_booked NothingToBook) b
-book_closing s roster b h n e g = book_known s roster b h n e Closing g ∙ closing_so s roster b
-
--- the book takes a record under some ceiling
-pub record Bookable (k : Kind) (s : List ℕ) (b : Lent) (i : ℕ) : Type 0 where
-  pub ceiling : ℕ
-  pub fits : book_judged k s ceiling b ≡ Ok i
 
 -- a verdict that fits past tests that would refuse
 past : (t : Bool) (r : Refused) (v : Verdict) (i : ℕ) → pick t (Err r) v ≡ Ok i → v ≡ Ok i
@@ -80,28 +37,27 @@ passed true r v i e = (refl, e)
 passed false r v i e = let z : ◌≡◌ {A = ℕ} 0 1 = cc in absurd (omega arith)
 
 -- a record that fits has a school on the roster, and fits the book
-pub judged_fits : (k : Kind) (s roster : List ℕ) (b : Lent) (i : ℕ) → fit_judged k s roster b ≡ Ok i → Bookable k s b i
+pub judged_fits : (k : Kind) (s roster : List ℕ) (b : Lent) (i : ℕ) → sound b ≡ true → fit_judged k s roster b ≡ Ok i → Fits k s b i
 unfolding fit_judged
-judged_fits k s roster b i e =
+judged_fits k s roster b i h e =
     let v : Verdict = on_roster k s b (standing roster (school_in k s)) in
     go (standing roster (school_in k s))
     (past (no_reference k s) NoReference v i
     (past (no_copies k s) NoCopies (pick (no_reference k s) (Err NoReference) v) i
     (past (nothing_to_book k s) NothingToBook _ i e)))
   where
-    go : (t : Option ℕ) → on_roster k s b t ≡ Ok i → Bookable k s b i
+    go : (t : Option ℕ) → on_roster k s b t ≡ Ok i → Fits k s b i
     go None q = unfold on_roster in let z : ◌≡◌ {A = ℕ} 0 1 = cc in absurd (omega arith)
-    go (Some ceiling) q = unfold on_roster in record { ceiling = ceiling; fits = q }
+    go (Some ceiling) q = unfold on_roster in record { is_sound = h; ceiling = ceiling; fits = q }
 
 -- an order fits at the first unused line
 pub record OrderFits (b : Lent) (i : ℕ) : Type 0 where
   pub next : i ≡ used_lines b
   pub room : used_lines b < line_room b
 
-pub order_fits : (s roster : List ℕ) (b : Lent) (i : ℕ) → fit_judged Order s roster b ≡ Ok i → OrderFits b i
+pub order_fits : (s : List ℕ) (b : Lent) (i : ℕ) → Fits Order s b i → OrderFits b i
 unfolding book_judged order_judged new_line_judged
-order_fits s roster b i e =
-    let q = judged_fits Order s roster b i e in
+order_fits s b i q =
     go q.ceiling (find_line b (line_key Order s)) q.fits
   where
     go : (ceiling : ℕ) (f : Option ℕ) → order_judged b (school_in Order s) (copies_in Order s) ceiling f ≡ Ok i → OrderFits b i
@@ -125,9 +81,9 @@ pub record GoodsFits (s : List ℕ) (b : Lent) (i : ℕ) : Type 0 where
   pub room : used_slips b < slip_room b
   pub within : (line_at b.lines i).arrived.0 + (copies_in Goods s).0 ≤ most_arrived
 
-pub goods_fits : (s roster : List ℕ) (b : Lent) (i : ℕ) → fit_judged Goods s roster b ≡ Ok i → GoodsFits s b i
+pub goods_fits : (s : List ℕ) (b : Lent) (i : ℕ) → Fits Goods s b i → GoodsFits s b i
 unfolding book_judged delivery_judged goods_judged arrival_judged slip_judged
-goods_fits s roster b i e = go (find_slip b (slip_key s)) refl (judged_fits Goods s roster b i e).fits
+goods_fits s b i q = go (find_slip b (slip_key s)) refl q.fits
   where
     in_line : find_slip b (slip_key s) ≡ None → (f : Option ℕ) → find_line b (line_key Goods s) ≡ f → goods_judged b (copies_in Goods s) f ≡ Ok i → GoodsFits s b i
     in_line n None g q = let z : ◌≡◌ {A = ℕ} 0 1 = cc in absurd (omega arith)
@@ -148,9 +104,9 @@ goods_fits s roster b i e = go (find_slip b (slip_key s)) refl (judged_fits Good
     go None g q = in_line g (find_line b (line_key Goods s)) refl q
 
 -- a report fits at its line
-pub report_fits_law : (s roster : List ℕ) (b : Lent) (i : ℕ) → fit_judged Report s roster b ≡ Ok i → find_line b (line_key Report s) ≡ Some i
+pub report_fits_law : (s : List ℕ) (b : Lent) (i : ℕ) → Fits Report s b i → find_line b (line_key Report s) ≡ Some i
 unfolding book_judged report_judged
-report_fits_law s roster b i e = go (find_line b (line_key Report s)) refl (judged_fits Report s roster b i e).fits
+report_fits_law s b i q = go (find_line b (line_key Report s)) refl q.fits
   where
     go : (f : Option ℕ) → find_line b (line_key Report s) ≡ f → report_judged f ≡ Ok i → find_line b (line_key Report s) ≡ Some i
     go None g q = let z : ◌≡◌ {A = ℕ} 0 1 = cc in absurd (omega arith)

@@ -7,16 +7,12 @@ ghost use Rattle.desk.specs.Printed.{kind_letter, is_message, message_field};
 use entry::report::MOST_MESSAGE;
 use feed::Feed;
 use own::book_own;
+use record::answer::Refusal;
 use std::fmt;
 use std::io;
 use std::io::{Read, Write};
 
 const UNKNOWN: u8 = b'?';
-
-// The answers to an over-long record and to one of no known kind.
-const OVER_LONG: u64 = 1;
-
-const OF_NO_KIND: u64 = 2;
 
 // 256 lines of 66 bytes, 512 slips of 50.
 const LINES_ROOM: usize = 16896;
@@ -49,11 +45,11 @@ struct Desk {
 }
 
 // The first byte of a record, but `?` where the answer says that it is over-long or of no known kind.
-#[tactic(auto, unfolding(crate::specs::Printed::kind_letter))]
+#[tactic(auto, unfolding(crate::specs::Printed::kind_letter, record::specs::Answers::refusal_number))]
 fn kind_letter(answer: u64, record: &[u8]) -> u8
     ensures { result ≡ kind_letter answer «record».now }
 {
-    if answer == OVER_LONG || answer == OF_NO_KIND {
+    if answer == u64::from(Refusal::TooLong) || answer == u64::from(Refusal::UnknownKind) {
         return UNKNOWN;
     }
     record.first().copied().unwrap_or(UNKNOWN)

@@ -1,4 +1,3 @@
 pub mod Writes
 pub mod Kept
 pub mod Sound
-pub mod Fields

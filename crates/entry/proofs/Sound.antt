@@ -123,19 +123,6 @@ pub sound_said : (ls : List ℕ) (i : ℕ) → line_sound ls i ≡ true → Said
 unfolding line_at
 sound_said ls i h = report_said _ _ _ (report_fits_law ls i h)
 
--- the byte of its mark is one of the three
-pub sound_mark : (ls : List ℕ) (i : ℕ) → line_sound ls i ≡ true → leb (get_or ls (line_width * i + mark_at) 0) most_mark ≡ true
-sound_mark ls i h = marked (get_or ls (line_width * i + mark_at) 0) (le_at ls (line_width * i + message_at) 2) (date_at ls i) (report_fits_law ls i h)
-  where
-    marked : (mark message : ℕ) (date : List ℕ) → report_sound mark message date ≡ true → leb mark most_mark ≡ true
-    marked mark message date r =
-        unfold report_sound in
-        split (eqb message no_report)
-        (λ e.
-        let none = eqb-true mark no_mark (and_left (eqb mark no_mark) (same date blank_date) (rw e at r)) in
-        le-leb mark most_mark (omega arith))
-        (λ e. and_right (leb least_mark mark) (leb mark most_mark) (and_left (within least_mark most_mark mark) _ (rw e at r)))
-
 -- a report with a mark, a number and an expected date goes together
 pub numbered_sound : (m : Mark) (n : ℕ) (date : List ℕ) → m ≢ Unmarked → n ≤ most_message → expected date ≡ true → report_sound (mark_byte m) n date ≡ true
 unfolding report_sound mark_byte

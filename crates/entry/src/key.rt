@@ -3,7 +3,7 @@ ghost use Rattle.std.specs.Prelude.{◌≡◌, ◌+◌, ◌≤◌, length};
 ghost use Rattle.std.proofs.Math.Seq.{slice};
 ghost use Rattle.cells.specs.Bytes.{same};
 
-use cells::bytes_at;
+use cells::same_by;
 
 pub const ADDRESS_WIDTH: usize = 10;
 
@@ -38,22 +38,16 @@ pub const SLIP_NUMBER_AT: usize = 32;
 
 pub const POSITION_AT: usize = 42;
 
-// A line's key given field by field has five. The first and the last tell most keys apart: schools by the front of their address, references by their last eight bytes.
-pub const KEY_FIELDS: usize = 5;
-
-pub const SCHOOL_FIELD: usize = 0;
-
-pub const REFERENCE_FIELD: usize = 4;
-
+// Most keys of lines are told apart by the front of the school's address and by the last eight bytes of the reference: where these begin in their fields.
 pub const SCHOOL_TELLS: usize = 0;
 
 pub const REFERENCE_TELLS: usize = 2;
 
-// Whether the so many bytes at a place are a field. Arrays are compared eight bytes at a time with no call, where slices that begin alike cost one.
-#[tactic(auto, using(crate::proofs::Fields::whole_field, crate::proofs::Fields::other_width, cells::proofs::Lists::same_is))]
+// Whether the so many bytes at a place are a field, eight or more; the first eight are compared first.
+#[tactic(auto, using(cells::proofs::Parts::part_is))]
 pub fn field_is<const N: usize>(s: &[u8], at: usize, field: &[u8]) -> bool
-    requires { at + N ≤ length s.now }
+    requires { (8 ≤ N) × (at + N ≤ length s.now) }
     ensures { result ≡ same (slice at (at + N) s.now) field.now }
 {
-    field.len() == N && bytes_at::<N>(s, at) == bytes_at::<N>(field, 0)
+    same_by(&s[at..at + N], field, 0)
 }

@@ -21,13 +21,12 @@ use Rattle.writing.specs.Digits.{digits_of, unwritable, number_bytes}
 use Rattle.writing.specs.Write.{content_byte}
 use Rattle.writing.proofs.Decimals.{unwritable_length, number_length}
 use Rattle.parts.specs.Part.{most_digits, article_width}
-use Rattle.parts.specs.Fields.{amount_text, article_text, medium_text}
+use Rattle.parts.specs.Fields.{amount_text, medium_text}
 use Rattle.parts.specs.declared.part.Medium.{Medium}
 use Rattle.parts.specs.declared.part.Medium.TheVariants.{Physical, Digital}
 use Rattle.parts.specs.declared.part.PartPrice.{PartPrice}
-use Rattle.parts.specs.declared.part.PartArticle.{PartArticle}
 use Rattle.lent_parts.specs.Faults.{is_kept}
-use Rattle.parts.proofs.Texts.{amount_written, amount_broken, article_written, article_broken}
+use Rattle.parts.proofs.Texts.{amount_written, amount_broken}
 
 -- a test that another one implies adds nothing to it
 implied : (a b : Bool) → (b ≡ true → a ≡ true) → a && b ≡ b
@@ -157,16 +156,7 @@ pub article_kept : (s : List ℕ) → 0 < length s → length s ≤ article_widt
 unfolding is_kept keeps contents is_in rule_in content_rule of_class all_of
 article_kept s h l = rw (le-leb 1 (length s) h, le-leb (length s) 35 l, any_all s) (and_true _)
 
--- an article
-module _ (a : PartArticle) where
-  -- of no bytes is not
-  pub article_none : a.length ≡ 0 → is_kept 1101 (article_text a) ≡ false
-  unfolding is_kept keeps contents is_in rule_in content_rule of_class all
-  article_none e =
-      let t : article_text a ≡ [] = article_written a (omega arith) ∙ rw e in
-      ap (is_kept 1101) t
-
-  -- nor of more
-  pub article_long : article_width < a.length → is_kept 1101 (article_text a) ≡ false
-  unfolding is_kept unwritable all
-  article_long h = ap (is_kept 1101) (article_broken a h)
+-- and one of none is not
+pub article_none : (s : List ℕ) → length s ≡ 0 → is_kept 1101 s ≡ false
+unfolding is_kept keeps contents is_in rule_in content_rule of_class
+article_none s e = rw (e, and_false)

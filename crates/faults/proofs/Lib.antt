@@ -1,4 +1,3 @@
 pub mod Kept
-pub mod Loop
 pub mod First
 pub mod Asked

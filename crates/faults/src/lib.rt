@@ -1,20 +1,14 @@
 // The fields of lent parts, judged where the parts stand, and how long they become.
 #![tactic(auto)]
 
-ghost use Rattle.std.specs.Prelude.{◌≡◌, ◌+◌, ◌*◌, ◌^◌, ◌≤◌, length};
-ghost use Rattle.parts.specs.Loops.{most_parts, are_loops};
-ghost use Rattle.parts.specs.Part.{most_digits, price_width, part_width, lent_price, lent_article};
+ghost use Rattle.std.specs.Prelude.{◌≡◌, [], ◌∷◌, ◌*◌, ◌<◌, length, unwrap_or, IfSome};
+ghost use Rattle.parts.specs.Loops.{loop_fields, are_loops};
+ghost use Rattle.parts.specs.Part.{lent_price, lent_article};
 ghost use Rattle.parts.specs.Fields.{amount_text, article_text, lent_loop, lent_fields};
-ghost use Rattle.lent_parts.specs.Faults.{is_kept, first_fault, price_loop, fields_text};
+ghost use Rattle.lent_parts.specs.Faults.{is_kept, first_fault, price_loop, article_loop, fields_text};
 
-use cells::little::get;
-use cells::part;
-use lent_parts::lent::is_medium;
-use parts::entry::{
-    ARTICLE, ARTICLE_QUALIFIER, CURRENCY, DIGITS, LENGTH, LIST, NET, PART_WIDTH, PRICE_QUALIFIER,
-    PRICE_WIDTH,
-};
-use parts::fit::{ARTICLE_WIDTH, MOST_DIGITS};
+use lent_parts::entries::{LentPart, LentParts, LentPrice};
+use parts::fit::MOST_DIGITS;
 use parts::loops::LOOP_FIELDS;
 use rules::rule::{Texts, is_one_of};
 use signs::{Class, of_class};
@@ -24,192 +18,144 @@ use writing::entries::is_content;
 const LEAST_DIGITS: usize = 5;
 // The heads of a loop's fields and its contents but for the two amounts and the article.
 const LOOP_LEAST: usize = 66;
-// The fields of a price.
-const PRICE_FIELDS: usize = 3;
 
-// Ten to a number of digits.
-fn power(digits: usize) -> u64
-    requires { digits ≤ most_digits }
-    ensures { result ≡ 10 ^ digits }
+// Whether the amount of a price can be written in its digits.
+#[tactic(auto, using(crate::proofs::Kept::amount_few, crate::proofs::Kept::amount_many, crate::proofs::Kept::amount_within))]
+fn is_amount(p: LentPrice) -> bool
+    ensures { result ≡ is_kept 1029 (amount_text (lent_price p.entry.room.now p.entry.at)) }
 {
-    let mut n: u64 = 1;
-    let mut i: usize = 0;
-    while i < digits {
-        n *= 10;
-        i += 1;
-    }
-    n
-}
-
-// Whether the amount of the price at a place can be written in its digits.
-fn is_amount(s: &[u8], at: usize) -> bool
-    requires { at + price_width ≤ length s.now }
-    ensures { result ≡ is_kept 1029 (amount_text (lent_price s.now at)) }
-{
-    let digits = s[at + DIGITS] as usize;
+    let digits = p.digits() as usize;
     if digits < LEAST_DIGITS {
         return false;
     }
     if MOST_DIGITS < digits {
         return false;
     }
-    get::<8>(s, at) < power(digits)
+    p.amount() < 10u64.pow(digits as u32)
 }
 
-// The first field of the price at a place that cannot be written, or three.
-fn price_fault(s: &[u8], at: usize) -> usize
-    requires { at + price_width ≤ length s.now }
-    ensures { result ≡ first_fault (price_loop (lent_price s.now at)) }
+// The first field of a price that cannot be written.
+#[tactic(auto, using(crate::proofs::First::fault_found, crate::proofs::Kept::qualifier_kept, crate::proofs::Kept::currency_kept))]
+fn price_fault(p: LentPrice) -> Option<usize>
+    ensures first { unwrap_or result 3 ≡ first_fault (price_loop (lent_price p.entry.room.now p.entry.at)) }
+    ensures inside { IfSome result (λ i. i < 3) }
 {
-    if !is_amount(s, at) {
-        return 0;
+    if !is_amount(p) {
+        return Some(0);
     }
-    if !of_class(
-        Class::Capital,
-        2,
-        2,
-        part(s, at + PRICE_QUALIFIER, at + CURRENCY),
-    ) {
-        return 1;
+    if !of_class(Class::Capital, 2, 2, p.qualifier()) {
+        return Some(1);
     }
-    if !of_class(
-        Class::Capital,
-        3,
-        3,
-        part(s, at + CURRENCY, at + PRICE_WIDTH),
-    ) {
-        return 2;
+    if !of_class(Class::Capital, 3, 3, p.currency()) {
+        return Some(2);
     }
-    PRICE_FIELDS
+    None
 }
 
-// Whether the article of the part at a place can be written.
-fn is_article_kept(s: &[u8], at: usize) -> bool
-    requires { at + part_width ≤ length s.now }
-    ensures { result ≡ is_kept 1101 (article_text (lent_article s.now at)) }
+// Whether the article of a part can be written.
+#[tactic(auto, using(crate::proofs::Kept::article_none, crate::proofs::Kept::article_kept, parts::proofs::Texts::article_fits))]
+fn is_article_kept(p: LentPart) -> bool
+    ensures { result ≡ is_kept 1101 (article_text (lent_article p.entry.room.now p.entry.at)) }
 {
-    let width = s[at + LENGTH] as usize;
-    if width == 0 {
+    let text = p.article_text();
+    if text.is_empty() {
         return false;
     }
-    if ARTICLE_WIDTH < width {
-        return false;
-    }
-    let start = at + ARTICLE;
-    is_content(part(s, start, start + width))
+    is_content(text)
 }
 
-// The first field of the part at a place that cannot be written, or ten.
-fn fault_at(s: &[u8], at: usize) -> usize
-    requires { at + part_width ≤ length s.now }
-    ensures { result ≡ first_fault (lent_loop s.now at) }
+// The first field behind the prices of a part that cannot be written.
+#[tactic(auto, using(crate::proofs::First::fault_found, crate::proofs::Kept::article_qualifier_kept, crate::proofs::Kept::medium_kept))]
+fn article_fault(p: LentPart) -> Option<usize>
+    ensures first { unwrap_or result 3 ≡ first_fault (article_loop p.entry.room.now p.entry.at) }
+    ensures inside { IfSome result (λ i. i < 3) }
 {
-    if !is_one_of(Texts::PartTax, part(s, at, at + 1)) {
-        return 0;
+    if !is_article_kept(p) {
+        return Some(0);
     }
-    let net = price_fault(s, at + NET);
-    if net < PRICE_FIELDS {
-        return 1 + net;
+    if !of_class(Class::Capital, 2, 2, p.article_qualifier()) {
+        return Some(1);
     }
-    let list = price_fault(s, at + LIST);
-    if list < PRICE_FIELDS {
-        return 4 + list;
+    if !p.is_medium() {
+        return Some(2);
     }
-    if !is_article_kept(s, at) {
-        return 7;
-    }
-    if !of_class(
-        Class::Capital,
-        2,
-        2,
-        part(s, at + ARTICLE_QUALIFIER, at + PART_WIDTH),
-    ) {
-        return 8;
-    }
-    if !is_medium(s, at) {
-        return 9;
-    }
-    LOOP_FIELDS
+    None
 }
 
-// The first field of the first n parts that cannot be written, or their number.
-pub fn first_fault(s: &[u8], n: usize) -> usize
-    requires { (n ≤ most_parts) × (n * part_width ≤ length s.now) }
-    ensures { result ≡ first_fault (lent_fields n s.now 0) }
+// The first field of a part that cannot be written: the tax mark, then those of the prices and of the article.
+#[tactic(auto, using(crate::proofs::First::part_faults, crate::proofs::Kept::tax_kept))]
+fn part_fault(p: LentPart) -> Option<usize>
+    ensures first { unwrap_or result loop_fields ≡ first_fault (lent_loop p.entry.room.now p.entry.at) }
+    ensures inside { IfSome result (λ i. i < loop_fields) }
 {
-    let mut j: usize = 0;
-    while j < n {
-        let fault = fault_at(s, j * PART_WIDTH);
-        if fault < LOOP_FIELDS {
-            return j * LOOP_FIELDS + fault;
+    if !is_one_of(Texts::PartTax, &[p.tax()]) {
+        return Some(0);
+    }
+    if let Some(i) = price_fault(p.net()) {
+        return Some(1 + i);
+    }
+    if let Some(i) = price_fault(p.list()) {
+        return Some(4 + i);
+    }
+    if let Some(i) = article_fault(p) {
+        return Some(7 + i);
+    }
+    None
+}
+
+// The first field of lent parts that cannot be written.
+#[tactic(auto, using(crate::proofs::First::faults_left))]
+pub fn first_fault(parts: LentParts) -> Option<usize>
+    ensures first { unwrap_or result (parts.entry.count * loop_fields) ≡ first_fault (lent_fields parts.entry.count parts.entry.room.now 0) }
+    ensures inside { IfSome result (λ i. i < parts.entry.count * loop_fields) }
+{
+    for j in 0..parts.count {
+        if let Some(i) = part_fault(parts.nth(j)) {
+            return Some(j * LOOP_FIELDS + i);
         }
-        j += 1;
     }
-    j * LOOP_FIELDS
+    None
 }
 
-// Whether the prices of the first n parts have the qualifiers that a loop asks for.
-pub fn are_lent_loops(s: &[u8], n: usize) -> bool
-    requires { (n ≤ most_parts) × (n * part_width ≤ length s.now) }
-    ensures { result ≡ are_loops n (lent_fields n s.now 0) }
+// Whether the prices of lent parts have the qualifiers that a loop asks for.
+#[tactic(auto, using(crate::proofs::Asked::loops_asked))]
+pub fn are_lent_loops(parts: LentParts) -> bool
+    ensures { result ≡ are_loops parts.entry.count (lent_fields parts.entry.count parts.entry.room.now 0) }
 {
-    let mut j: usize = 0;
-    while j < n {
-        let net = j * PART_WIDTH + NET;
-        if !is_one_of(
-            Texts::NetPrice,
-            part(s, net + PRICE_QUALIFIER, net + CURRENCY),
-        ) {
+    for j in 0..parts.count {
+        let p = parts.nth(j);
+        if !is_one_of(Texts::NetPrice, p.net().qualifier()) {
             return false;
         }
-        let list = j * PART_WIDTH + LIST;
-        if !is_one_of(
-            Texts::ListPrice,
-            part(s, list + PRICE_QUALIFIER, list + CURRENCY),
-        ) {
+        if !is_one_of(Texts::ListPrice, p.list().qualifier()) {
             return false;
         }
-        j += 1;
     }
     true
 }
 
 // How long an amount becomes that is to be written in so many digits.
-fn amount_width(s: &[u8], at: usize) -> usize
-    requires { at + price_width ≤ length s.now }
-    ensures { result ≡ length (amount_text (lent_price s.now at)) }
+#[tactic(auto, using(parts::proofs::Texts::amount_long))]
+fn amount_width(p: LentPrice) -> usize
+    ensures { result ≡ length (amount_text (lent_price p.entry.room.now p.entry.at)) }
 {
-    let digits = s[at + DIGITS] as usize;
+    let digits = p.digits() as usize;
     if MOST_DIGITS < digits {
         return 1;
     }
     digits
 }
 
-// How long the article of the part at a place becomes.
-fn article_width(s: &[u8], at: usize) -> usize
-    requires { at + part_width ≤ length s.now }
-    ensures { result ≡ length (article_text (lent_article s.now at)) }
-{
-    let width = s[at + LENGTH] as usize;
-    if ARTICLE_WIDTH < width {
-        return 1;
-    }
-    width
-}
-
-// How long the fields of the first n parts become.
-pub fn loops_width(s: &[u8], n: usize) -> usize
-    requires { (n ≤ most_parts) × (n * part_width ≤ length s.now) }
-    ensures { result ≡ length (fields_text (lent_fields n s.now 0)) }
+// How long the fields of lent parts become.
+#[tactic(auto, using(crate::proofs::Asked::width_next, crate::proofs::Asked::width_end, parts::proofs::Texts::amount_fits, parts::proofs::Texts::article_fits))]
+pub fn loops_width(parts: LentParts) -> usize
+    ensures { result ≡ length (fields_text (lent_fields parts.entry.count parts.entry.room.now 0)) }
 {
     let mut width: usize = 0;
-    let mut j: usize = 0;
-    while j < n {
-        let at = j * PART_WIDTH;
-        let amounts = amount_width(s, at + NET) + amount_width(s, at + LIST);
-        width += LOOP_LEAST + amounts + article_width(s, at);
-        j += 1;
+    for j in 0..parts.count {
+        let p = parts.nth(j);
+        let amounts = amount_width(p.net()) + amount_width(p.list());
+        width += LOOP_LEAST + amounts + p.article_text().len();
     }
     width
 }

@@ -1,6 +1,6 @@
 -- Entries of the book and of a save: how long they are, and stored one after the other.
 use mathlib.Core.Path.{◌≡◌, ◌∙◌, refl}
-use mathlib.Core.List.{List}
+use mathlib.Core.List.{List, ◌∷◌}
 use Prim.Native.Nat.{ℕ, suc, ◌+◌, ◌*◌, ◌≤◌}
 use native.Mathlib.Numerals.{add-one}
 use native.Mathlib.Omega.{arith}
@@ -11,7 +11,7 @@ use Rattle.cells.proofs.Stores.{sets_append}
 use Rattle.entry.specs.Stored.{line_width, slip_width, arrived_at}
 use Rattle.save.specs.Entries.{arrived_on}
 use Rattle.save.specs.Form.{front_width, saved_line_width, slips_at}
-use Rattle.save.specs.Saved.{slip_body_width, end_kind, line_front_at, slip_body_at, end_entry, line_in, slip_in}
+use Rattle.save.specs.Saved.{slip_kind, slip_body_width, saved_slip_width, end_kind, line_front_at, slip_body_at, end_entry, line_in, slip_in}
 use Rattle.save.specs.Load.{line_from, loaded_line}
 use Rattle.save.specs.declared.form.Form.{Form}
 use Rattle.save.proofs.Bodies.{line_long}
@@ -31,6 +31,10 @@ front_at_long lines i h = length-slice (line_width * i) (line_width * i + front_
 pub slip_at_long : (slips : List ℕ) (j : ℕ) → slip_width * j + slip_body_width ≤ length slips → length (slip_body_at slips j) ≡ slip_body_width
 unfolding slip_body_at
 slip_at_long slips j h = length-slice (slip_width * j) (slip_width * j + slip_body_width) slips h ∙ omega arith
+
+-- and its entry
+pub slip_entry_long : (slips : List ℕ) (j : ℕ) → slip_width * j + slip_body_width ≤ length slips → length (slip_kind ∷ slip_body_at slips j) ≡ saved_slip_width
+slip_entry_long slips j h = omega (arith, slip_at_long slips j h)
 
 -- a line's front, then A
 pub line_stored : (d : List ℕ) (at : ℕ) (front : List ℕ) (arrived : ℕ) → length front ≡ front_width

@@ -6,13 +6,13 @@ ghost use Rattle.save.specs.Form.{slips_at};
 ghost use Rattle.save.specs.Saved.{saved_slip_width, end_width, line_front_at, slip_body_at, line_entries, slip_entries, end_entry};
 ghost use Rattle.save.specs.declared.form.Form.TheVariants.{New};
 
+use crate::used::UsedLines;
 use cells::little::put;
 use cells::paste_at;
-use fronts::put_line;
-use kept::SAVED_SLIP_WIDTH;
-use save::form::{FRONT_WIDTH, Form, KIND_BYTE};
+use save::form::Form;
+use save::slips::SAVED_SLIP_WIDTH;
 use saved::{END_KIND, SLIP_KIND};
-use stored::{LINE_WIDTH, SLIP_WIDTH};
+use stored::SLIP_WIDTH;
 
 // An entry: a byte of kind, then a body.
 fn put_entry(out: &mut [u8], at: usize, kind: u8, body: &[u8])
@@ -23,40 +23,33 @@ fn put_entry(out: &mut [u8], at: usize, kind: u8, body: &[u8])
     paste_at(out, at + 1, body);
 }
 
-// A byte of kind and a line's front, as saving writes it.
-const NEW_LINE_WIDTH: usize = KIND_BYTE + FRONT_WIDTH;
-
 // The used lines, from the front on, in the new form.
-pub fn put_lines(out: &mut [u8], lines: &[u8], n: usize)
-    requires { (line_width * n ≤ length lines.now) × (slips_at New n ≤ length out.old) }
-    ensures { out.new ≡ sets out.old 0 (line_entries New (line_front_at lines.now) n) }
+pub fn put_lines(out: &mut [u8], lines: UsedLines)
+    requires { slips_at New lines.count ≤ length out.old }
+    ensures { out.new ≡ sets out.old 0 (line_entries New (line_front_at lines.entry.bytes.now) lines.entry.count) }
 {
-    let mut i: usize = 0;
-    while i < n {
-        let at = NEW_LINE_WIDTH * i;
-        let from = LINE_WIDTH * i;
-        let end = from + FRONT_WIDTH;
-        put_line(out, at, Form::New, Form::New, &lines[from..end]);
-        i += 1;
-    }
+    fronts::lines::put_lines(out, Form::New, &lines, lines.count);
 }
 
 // The used slips, from a place on: a byte of kind, then the slip.
+#[tactic(auto, unfolding(save::specs::Saved::slip_entries, save::specs::Saved::slip_body_at), using(save::proofs::Joined::joined_behind, save::proofs::Joined::joined_end, crate::proofs::Entries::slip_entry_long, cells::proofs::Parts::part_is))]
 pub fn put_slips(out: &mut [u8], start: usize, slips: &[u8], m: usize)
     requires { (slip_width * m ≤ length slips.now) × (start + saved_slip_width * m ≤ length out.old) }
     ensures { out.new ≡ sets out.old start (slip_entries (slip_body_at slips.now) m) }
 {
-    let mut j: usize = 0;
-    while j < m {
-        let at = start + SAVED_SLIP_WIDTH * j;
+    for j in 0..m {
         let from = SLIP_WIDTH * j;
-        let end = from + SLIP_WIDTH;
-        put_entry(out, at, SLIP_KIND, &slips[from..end]);
-        j += 1;
+        put_entry(
+            out,
+            start + SAVED_SLIP_WIDTH * j,
+            SLIP_KIND,
+            &slips[from..from + SLIP_WIDTH],
+        );
     }
 }
 
 // The end: a byte of kind, then the used counts.
+#[tactic(auto, using(crate::proofs::Entries::end_stored))]
 pub fn put_end(out: &mut [u8], at: usize, n: usize, m: usize)
     requires { at + end_width ≤ length out.old }
     ensures { out.new ≡ sets out.old at (end_entry n m) }

@@ -1,7 +1,7 @@
 -- A line, or a slip, compared with a key: field by field, and by bytes that tell most keys apart.
 use mathlib.Core.Path.{◌≡◌, ◌∙◌, ap, ap₂, sym, refl}
 use mathlib.Core.Bool.{Bool, true, false, ◌&&◌}
-use mathlib.Core.List.{List, [], ◌∷◌, ◌++◌, append-nil}
+use mathlib.Core.List.{List, [], ◌++◌, append-nil}
 use Prim.Native.Nat.{ℕ, ◌+◌, ◌*◌, ◌^◌, ◌≤◌, ◌<◌}
 use native.Mathlib.Omega.{arith}
 use borrow.Author.Tests.{ne_eqb}

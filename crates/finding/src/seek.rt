@@ -9,9 +9,9 @@ use crate::keyed::key_is;
 use cells::little::get;
 use entry::key::{REFERENCE_TELLS, SCHOOL_TELLS};
 use entry::line_key::LineKey;
-use stored::{
-    KEY_TELLS, LINE_WIDTH, SLIP_KEY_TELLS, SLIP_WIDTH, is_line_sound, open_at, slip_is, slip_line,
-};
+use stored::line::StoredLine;
+use stored::slip::StoredSlip;
+use stored::{KEY_TELLS, LINE_WIDTH, SLIP_KEY_TELLS, SLIP_WIDTH};
 
 pub const MOST_LINES: usize = 512;
 
@@ -26,15 +26,15 @@ pub fn find_line(lines: &[u8], count: usize, key: LineKey) -> Option<usize>
 {
     let school = get::<8>(key.school, SCHOOL_TELLS);
     let reference = get::<8>(key.reference, REFERENCE_TELLS);
-    for line in 0..count {
-        if get::<8>(lines, LINE_WIDTH * line + KEY_TELLS) != reference {
+    for i in 0..count {
+        if get::<8>(lines, LINE_WIDTH * i + KEY_TELLS) != reference {
             continue;
         }
-        if get::<8>(lines, LINE_WIDTH * line + SCHOOL_TELLS) != school {
+        if get::<8>(lines, LINE_WIDTH * i + SCHOOL_TELLS) != school {
             continue;
         }
-        if key_is(lines, line, key) {
-            return Some(line);
+        if key_is(StoredLine { lines, index: i }, key) {
+            return Some(i);
         }
     }
     None
@@ -47,12 +47,12 @@ pub fn find_slip(slips: &[u8], count: usize, key: &[u8]) -> Option<usize>
     ensures { result ≡ first_from (slip_is slips.now key.now) count 0 }
 {
     let told = get::<8>(key, SLIP_KEY_TELLS);
-    for slip in 0..count {
-        if get::<8>(slips, SLIP_WIDTH * slip + SLIP_KEY_TELLS) != told {
+    for j in 0..count {
+        if get::<8>(slips, SLIP_WIDTH * j + SLIP_KEY_TELLS) != told {
             continue;
         }
-        if slip_is(slips, slip, key) {
-            return Some(slip);
+        if (StoredSlip { slips, index: j }).key_is(key) {
+            return Some(j);
         }
     }
     None
@@ -65,8 +65,8 @@ pub fn open_copies(lines: &[u8], count: usize, school: &[u8]) -> u64
     ensures { result ≡ sum_from (open_at lines.now school.now) count 0 }
 {
     let mut sum: u64 = 0;
-    for line in 0..count {
-        sum += open_at(lines, line, school);
+    for i in 0..count {
+        sum += StoredLine { lines, index: i }.open_copies(school);
     }
     sum
 }
@@ -77,7 +77,7 @@ fn are_lines_sound(lines: &[u8], count: usize) -> bool
     ensures { result ≡ all_from (line_sound lines.now) count 0 }
 {
     for i in 0..count {
-        if !is_line_sound(lines, i) {
+        if !(StoredLine { lines, index: i }).is_sound() {
             return false;
         }
     }
@@ -90,7 +90,7 @@ fn are_slips_sound(slips: &[u8], count: usize, lines: usize) -> bool
     ensures { result ≡ all_from (slip_sound lines slips.now) count 0 }
 {
     for j in 0..count {
-        if lines <= slip_line(slips, j) {
+        if lines <= (StoredSlip { slips, index: j }).line() {
             return false;
         }
     }

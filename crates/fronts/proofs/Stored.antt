@@ -3,8 +3,8 @@ use mathlib.Core.Path.{◌≡◌, refl}
 use mathlib.Core.List.{List}
 use Prim.Native.Nat.{ℕ, suc, ◌+◌}
 use native.Mathlib.Omega.{arith}
-use lib.ListN.{length, get_or}
-use lib.Seq.{sets}
+use lib.ListN.{length, get_or, length-set}
+use lib.Seq.{sets, length-take-le}
 use Rattle.cells.specs.Little.{le_bytes}
 use Rattle.cells.proofs.Stores.{sets_append}
 use Rattle.entry.specs.Report.{blank_date}
@@ -24,3 +24,5 @@ pub old_stored : (d : List ℕ) (at : ℕ) (body : List ℕ) → length body ≡
     → sets (sets d at body) (at + message_at) (unsaved (get_or body mark_at 0)) ≡ sets d at (front_of Old body)
 unfolding front_of
 old_stored d at body e = rw (sets_append d at body (unsaved (get_or body mark_at 0)), e)
+
+pub ruleset put_long = (length-set, length-take-le)

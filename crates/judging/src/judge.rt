@@ -1,150 +1,115 @@
-// What a sound book says of a record that is read: nothing is written yet.
-ghost use Rattle.std.specs.Prelude.{◌≡◌, true, ◌≤◌, length};
-ghost use Rattle.record.specs.Layout.{fixed_width};
-ghost use Rattle.entry.specs.Stored.{most_copies};
-ghost use Rattle.book.specs.Lent.{lent, sound, find_line, find_slip};
-ghost use Rattle.book.specs.Booking.{school_in, line_key, slip_key, copies_in, order_judged, delivery_judged, report_judged, fit_judged};
+// What a sound book says of a record that was read: nothing is written yet.
+ghost use Rattle.std.specs.Prelude.{◌≡◌};
+ghost use Rattle.book.specs.Booking.{nothing_to_book, no_copies, book_judged, fit_judged};
+ghost use Rattle.finding.specs.Seen.{seen};
 
 use book::answer::{Refused, Verdict};
 use cells::part;
-use finding::seek::{find_line, find_slip};
-use naming::{goods_key, order_key, report_key, slip_key};
+use finding::sound::SoundBook;
+use naming::kinds::{Bookable, Goods, Order, Report, slip_key};
+use naming::read::ReadRecord;
 use placing::{judge_arrival, judge_room, judge_slip};
-use record::layout::Kind;
-use record::places::{
-    ARTICLE, ORDER_ARTICLE, ORDER_MEASURE, ORDER_QUANTITY, ORDER_REFERENCE, PARTIES_END, POSITION,
-    PRICE, QUANTITY, RECIPIENT, REFERENCE, REPORT_ARTICLE, REPORT_REFERENCE, SENDER, SLIP,
-};
+use record::places::{POSITION, SLIP};
 use roster::standing_on;
-use rules::amount::{Copies, amount_of};
 use signs::{Class, all_of};
 
-// 14, then 25 and 15.
-fn judge_new_line(
-    s: &[u8],
-    copies: Copies,
-    ceiling: u64,
-    lines: &[u8],
-    slips: &[u8],
-    used: &[usize; 2],
-) -> Verdict
-    requires { (sound (lent lines.now slips.now used.now) ≡ true) × (fixed_width Kind.Order ≤ length s.now) × (copies.0 ≤ most_copies) }
-    ensures { result ≡ order_judged (lent lines.now slips.now used.now) (school_in Kind.Order s.now) copies ceiling (find_line (lent lines.now slips.now used.now) (line_key Kind.Order s.now)) }
-{
-    let key = order_key(s);
-    match find_line(lines, used[0], key) {
-        Some(_) => Err(Refused::LineExists),
-        None => judge_room(
-            part(s, SENDER, RECIPIENT),
-            copies,
-            ceiling,
-            lines,
-            slips,
-            used,
-        ),
+// A kind of record, judged.
+pub trait Judged: Bookable {
+    // 13.
+    fn has_nothing_to_book(given: &ReadRecord<Self>) -> bool
+        ensures { result ≡ nothing_to_book Self.kind given.now.bytes.now };
+
+    // 11.
+    fn has_no_copies(given: &ReadRecord<Self>) -> bool
+        ensures { result ≡ no_copies Self.kind given.now.bytes.now };
+
+    // What the book says, where the school's account stands on the roster with a ceiling.
+    fn judge_in(given: &ReadRecord<Self>, ceiling: u64, book: SoundBook) -> Verdict
+        ensures { result ≡ book_judged Self.kind given.now.bytes.now ceiling (seen book.entry.lent) };
+}
+
+impl Judged for Order {
+    #[tactic(auto, unfolding(book::specs::Booking::nothing_to_book))]
+    fn has_nothing_to_book(_given: &ReadRecord<Order>) -> bool {
+        false
+    }
+
+    #[tactic(auto, unfolding(book::specs::Booking::no_copies))]
+    fn has_no_copies(order: &ReadRecord<Order>) -> bool {
+        order.copies.0 == 0
+    }
+
+    // 14, then 25 and 15.
+    #[tactic(auto, unfolding(book::specs::Booking::line_key, book::specs::Booking::book_judged, book::specs::Booking::order_judged))]
+    fn judge_in(order: &ReadRecord<Order>, ceiling: u64, book: SoundBook) -> Verdict {
+        match book.line_with(Order::key(order.bytes)) {
+            Some(_) => Err(Refused::LineExists),
+            None => judge_room(Order::school(order.bytes), order.copies, ceiling, book),
+        }
     }
 }
 
-// 11, 12, 24, then 14, 25, 15.
-pub fn judge_order(
-    s: &[u8],
-    roster: &[u8],
-    lines: &[u8],
-    slips: &[u8],
-    used: &[usize; 2],
-) -> Verdict
-    requires { (sound (lent lines.now slips.now used.now) ≡ true) × (fixed_width Kind.Order ≤ length s.now) × ((copies_in Kind.Order s.now).0 ≤ most_copies) }
-    ensures { result ≡ fit_judged Kind.Order s.now roster.now (lent lines.now slips.now used.now) }
-{
-    let copies = amount_of::<Copies>(part(s, ORDER_QUANTITY, ORDER_MEASURE));
-    if copies.0 == 0 {
-        return Err(Refused::NoCopies);
+impl Judged for Goods {
+    // An advance notice, with a blank slip number.
+    #[tactic(auto, using(naming::proofs::Named::slip_blank_is))]
+    fn has_nothing_to_book(goods: &ReadRecord<Goods>) -> bool {
+        all_of(Class::Blank, part(goods.bytes, SLIP, POSITION))
     }
-    if all_of(Class::Blank, part(s, ORDER_REFERENCE, ORDER_ARTICLE)) {
-        return Err(Refused::NoReference);
+
+    #[tactic(auto, unfolding(book::specs::Booking::no_copies))]
+    fn has_no_copies(goods: &ReadRecord<Goods>) -> bool {
+        goods.copies.0 == 0
     }
-    match standing_on(roster, part(s, SENDER, RECIPIENT)) {
-        None => Err(Refused::NotOnRoster),
-        Some(ceiling) => judge_new_line(s, copies, ceiling, lines, slips, used),
+
+    // 17 or 18, 16, 21, 19.
+    #[tactic(auto, unfolding(book::specs::Booking::line_key, book::specs::Booking::book_judged, book::specs::Booking::delivery_judged, book::specs::Booking::goods_judged), using(book::proofs::Fields::slip_key_long))]
+    fn judge_in(goods: &ReadRecord<Goods>, _ceiling: u64, book: SoundBook) -> Verdict {
+        let key = Goods::key(goods.bytes);
+        match book.slip_with(slip_key(goods.bytes)) {
+            Some(j) => judge_slip(key, goods.copies, book.lent, j),
+            None => match book.line_with(key) {
+                None => Err(Refused::NoLine),
+                Some(i) => judge_arrival(goods.copies, book, i),
+            },
+        }
     }
 }
 
-// 17 or 18, 16, 21, 19.
-fn judge_delivery(
-    s: &[u8],
-    copies: Copies,
-    lines: &[u8],
-    slips: &[u8],
-    used: &[usize; 2],
-) -> Verdict
-    requires { (sound (lent lines.now slips.now used.now) ≡ true) × (fixed_width Kind.Goods ≤ length s.now) × (copies.0 ≤ most_copies) }
-    ensures { result ≡ delivery_judged (lent lines.now slips.now used.now) (line_key Kind.Goods s.now) copies (find_slip (lent lines.now slips.now used.now) (slip_key s.now)) }
-{
-    let key = goods_key(s);
-    match find_slip(slips, used[1], slip_key(s)) {
-        Some(j) => judge_slip(key, copies, lines, slips, used, j),
-        None => match find_line(lines, used[0], key) {
-            None => Err(Refused::NoLine),
-            Some(i) => judge_arrival(copies, lines, slips, used, i),
-        },
+impl Judged for Report {
+    #[tactic(auto, unfolding(book::specs::Booking::nothing_to_book))]
+    fn has_nothing_to_book(_given: &ReadRecord<Report>) -> bool {
+        false
+    }
+
+    #[tactic(auto, unfolding(book::specs::Booking::no_copies))]
+    fn has_no_copies(_given: &ReadRecord<Report>) -> bool {
+        false
+    }
+
+    // 16.
+    #[tactic(auto, unfolding(book::specs::Booking::line_key, book::specs::Booking::book_judged, book::specs::Booking::report_judged))]
+    fn judge_in(report: &ReadRecord<Report>, _ceiling: u64, book: SoundBook) -> Verdict {
+        book.line_with(Report::key(report.bytes))
+            .ok_or(Refused::NoLine)
     }
 }
 
-// 13, 11, 12, 24, then the delivery.
-pub fn judge_goods(
-    s: &[u8],
-    roster: &[u8],
-    lines: &[u8],
-    slips: &[u8],
-    used: &[usize; 2],
-) -> Verdict
-    requires { (sound (lent lines.now slips.now used.now) ≡ true) × (fixed_width Kind.Goods ≤ length s.now) × ((copies_in Kind.Goods s.now).0 ≤ most_copies) }
-    ensures { result ≡ fit_judged Kind.Goods s.now roster.now (lent lines.now slips.now used.now) }
+// 13, 11, 12, 24, then what the book says.
+#[tactic(auto, unfolding(book::specs::Booking::fit_judged, book::specs::Booking::on_roster))]
+pub fn judge<K: Judged>(given: &ReadRecord<K>, roster: &[u8], book: SoundBook) -> Verdict
+    ensures { result ≡ fit_judged K.kind given.now.bytes.now roster.now (seen book.entry.lent) }
 {
-    if all_of(Class::Blank, part(s, SLIP, POSITION)) {
+    if K::has_nothing_to_book(given) {
         return Err(Refused::NothingToBook);
     }
-    let copies = amount_of::<Copies>(part(s, QUANTITY, PRICE));
-    if copies.0 == 0 {
+    if K::has_no_copies(given) {
         return Err(Refused::NoCopies);
     }
-    if all_of(Class::Blank, part(s, REFERENCE, ARTICLE)) {
+    if K::has_no_reference(given.bytes) {
         return Err(Refused::NoReference);
     }
-    match standing_on(roster, part(s, RECIPIENT, PARTIES_END)) {
-        None => Err(Refused::NotOnRoster),
-        Some(_) => judge_delivery(s, copies, lines, slips, used),
-    }
-}
-
-// 16, of a report.
-fn judge_mark(s: &[u8], lines: &[u8], slips: &[u8], used: &[usize; 2]) -> Verdict
-    requires { (sound (lent lines.now slips.now used.now) ≡ true) × (fixed_width Kind.Report ≤ length s.now) }
-    ensures { result ≡ report_judged (find_line (lent lines.now slips.now used.now) (line_key Kind.Report s.now)) }
-{
-    let key = report_key(s);
-    match find_line(lines, used[0], key) {
-        None => Err(Refused::NoLine),
-        Some(i) => Ok(i),
-    }
-}
-
-// 12, 24, 16.
-pub fn judge_report(
-    s: &[u8],
-    roster: &[u8],
-    lines: &[u8],
-    slips: &[u8],
-    used: &[usize; 2],
-) -> Verdict
-    requires { (sound (lent lines.now slips.now used.now) ≡ true) × (fixed_width Kind.Report ≤ length s.now) }
-    ensures { result ≡ fit_judged Kind.Report s.now roster.now (lent lines.now slips.now used.now) }
-{
-    if all_of(Class::Blank, part(s, REPORT_REFERENCE, REPORT_ARTICLE)) {
-        return Err(Refused::NoReference);
-    }
-    match standing_on(roster, part(s, RECIPIENT, PARTIES_END)) {
-        None => Err(Refused::NotOnRoster),
-        Some(_) => judge_mark(s, lines, slips, used),
-    }
+    let Some(ceiling) = standing_on(roster, K::school(given.bytes)) else {
+        return Err(Refused::NotOnRoster);
+    };
+    K::judge_in(given, ceiling, book)
 }

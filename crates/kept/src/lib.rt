@@ -11,7 +11,7 @@ ghost use Rattle.record.specs.Layout.{first_broken};
 ghost use Rattle.book.specs.Booking.{slip_fields};
 
 use cells::little::get;
-use cells::{part, same};
+use cells::{bytes_at, part, same};
 use entry::key::{
     ARTICLE_AT, ARTICLE_QUALIFIER_AT, DATE_AT, FIRST_QUALIFIER_AT, PARTIES_WIDTH, POSITION_AT,
     REFERENCE_AT, SECOND_PARTY_AT, SECOND_QUALIFIER_AT, SLIP_NUMBER_AT,
@@ -19,7 +19,7 @@ use entry::key::{
 use entry::report::{MOST_MARK, is_report_sound};
 use rules::article::is_article;
 use rules::rule::{Texts, is_day, is_one_of};
-use save::form::{FRONT_WIDTH, Form};
+use save::form::Form;
 use save::lines::{LineBody, Lines};
 use signs::{Class, all_of, allowed_run, is_named, is_padded, of_class};
 use stored::{
@@ -103,14 +103,14 @@ fn is_report_kept(line: LineBody) -> bool
             is_report_sound(
                 mark,
                 get::<2>(body, MESSAGE_AT),
-                part(body, EXPECTED_AT, FRONT_WIDTH),
+                bytes_at(body, EXPECTED_AT),
             )
         }
     }
 }
 
 // Whether a line of a save keeps the rules.
-#[tactic(auto, unfolding(save::specs::Entries::line_kept), using(save::proofs::Fronts::front_named, save::proofs::Fronts::front_ordered))]
+#[tactic(auto, unfolding(save::specs::Entries::line_kept), using(save::proofs::Fronts::width_least, save::proofs::Fronts::front_named, save::proofs::Fronts::front_ordered))]
 pub fn is_line_kept(line: LineBody) -> bool
     ensures { result ≡ line_kept (front_of line.entry.form line.entry.bytes.now) }
 {

@@ -10,7 +10,7 @@ use Rattle.ledger.specs.History.{empty, settle, key_of}
 use Rattle.ledger.specs.Cases.{key, ours, second, theirs, ordering, ordering_under, arriving, telling, desk, wide, narrow}
 
 pub record Computed : Type 0 where
-  -- document 01's eight records: deliveries after an N still fill
+  -- the eight records of RULES 12: deliveries after an N still fill
   pub sample : desk wide empty
       (ordering ours 10
       ∷ arriving ours "0001" 4

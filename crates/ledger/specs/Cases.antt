@@ -1,4 +1,4 @@
--- Cases for what demand 3 alone does not pin: figures, marks, schools, the limit, the numbers, 17 against 18.
+-- Cases for what the sentences over all bookings alone do not pin: figures, marks, schools, the limit, the numbers, 17 against 18.
 use Rattle.std.specs.Prelude.{ℕ, List, [], ◌∷◌, ◌++◌}
 use Prim.Native.String.{String}
 use Rattle.std.proofs.Math.Option.{some}

@@ -1,9 +1,9 @@
--- Demand 3, the statement: what holds of a book after any sequence of bookings from empty.
+-- What holds of a book after any sequence of bookings from empty, and when a record is accepted: the statements.
 use Rattle.std.specs.Prelude.{ℕ, ◌+◌, ◌≤◌, ◌≡◌, false, List, [], ◌∷◌, length}
 use Rattle.cells.specs.Bytes.{same}
 use Rattle.ledger.specs.Lists.{keep, total}
 use Rattle.ledger.specs.Book.{Key, Order, Book, Rooms, school_of, of_school, filled, let_go, still_open, extra}
-use Rattle.ledger.specs.Booking.{Test, order, done, open_of, judge, enter}
+use Rattle.ledger.specs.Booking.{Fit, Test, order, done, open_of, tests, judge, enter}
 use Rattle.ledger.specs.History.{State, empty, bookings, lines_of, part, records_of, on_order, on_slip, line_from, has_slip}
 
 pub record Promise3 (rooms : Rooms) (st : State) : Type 0 where
@@ -33,3 +33,12 @@ CeilingKept =
 abbrev pub NoneHolds : List Test → Type 0
 NoneHolds [] = Unit {0}
 NoneHolds (t ∷ ts) = (t.holds ≡ false) × NoneHolds ts
+
+abbrev pub Demand3 : Type 0
+Demand3 = (rooms : Rooms) (rs : List Fit) → Promise3 rooms (bookings rooms empty rs)
+
+-- a record is accepted exactly where none of its tests holds
+abbrev pub AcceptedExactly : Type 0
+AcceptedExactly =
+    (rooms : Rooms) (b : Book) (r : Fit)
+    → (judge rooms b r ≡ done → NoneHolds (tests rooms b r)) × (NoneHolds (tests rooms b r) → judge rooms b r ≡ done)

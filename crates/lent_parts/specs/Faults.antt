@@ -1,11 +1,12 @@
 -- What is asked of the fields of lent parts before they are written, and their text.
-use Rattle.std.specs.Prelude.{ℕ, suc, Bool, ◌&&◌, List, [], ◌∷◌, ◌++◌}
+use Rattle.std.specs.Prelude.{ℕ, suc, ◌+◌, Bool, ◌&&◌, List, [], ◌∷◌, ◌++◌, get_or}
 use Rattle.cells.specs.Bytes.{pick, all}
 use Rattle.rules.specs.Rule.{keeps}
 use Rattle.record.specs.Contents.{content_rule}
 use Rattle.record.specs.Fields.{Optional}
 use Rattle.writing.specs.Write.{content_byte, field_text}
-use Rattle.parts.specs.Fields.{amount_text}
+use Rattle.parts.specs.Part.{medium_at, medium_in, is_medium, lent_article}
+use Rattle.parts.specs.Fields.{amount_text, article_text, medium_text}
 use Rattle.parts.specs.declared.part.PartPrice.{PartPrice}
 
 -- a content of bytes that may stand there, as the table of contents has it
@@ -20,6 +21,14 @@ first_fault (f ∷ fs) = pick (is_kept f.id f.content) (suc (first_fault fs)) 0
 -- the three fields of a price
 abbrev pub price_loop : PartPrice → List Optional
 price_loop p = record { id = 1029; content = amount_text p } ∷ record { id = 1030; content = p.qualifier } ∷ record { id = 1032; content = p.currency } ∷ []
+
+-- and the three behind the prices, of the part that stands lent at a place
+abbrev pub article_loop : List ℕ → ℕ → List Optional
+article_loop s at =
+    record { id = 1101; content = article_text (lent_article s at) }
+    ∷ record { id = 1102; content = (lent_article s at).qualifier }
+    ∷ record { id = 1151; content = medium_text (is_medium (get_or s (at + medium_at) 0)) (medium_in (get_or s (at + medium_at) 0)) }
+    ∷ []
 
 -- fields as they are written, without the last one
 unfoldable pub fields_text : List Optional → List ℕ

@@ -1,4 +1,5 @@
 // The parts that stand in a lent room, as values.
 #![tactic(auto)]
 
+pub mod entries;
 pub mod lent;

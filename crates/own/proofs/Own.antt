@@ -6,13 +6,15 @@ use Prim.Native.Nat.{ℕ, ◌+◌, ◌^◌, ◌≤◌, ◌<◌}
 use native.Mathlib.Omega.{arith}
 use borrow.Author.Tests.{ltb-false, lt-ltb, le-ltb, le-leb}
 use lib.Dec.{ltb, leb, eqb}
-use lib.ListN.{length, take, drop, length-append, length-take, length-drop, take-append-drop}
-use Rattle.cells.specs.Bytes.{pick}
+use lib.ListN.{length, take, drop, length-append, length-take, length-drop, take-append-drop, replicate}
+use lib.Seq.{sets}
+use Rattle.cells.specs.Bytes.{pick, joined}
 use Rattle.cells.specs.Little.{le_bytes}
 use Rattle.cells.specs.Search.{first_from}
 use Rattle.std.specs.Prelude.{Err, None, Ok, Option, Some}
 use Rattle.cells.proofs.Bools.{split}
 use Rattle.cells.proofs.Lists.{same_refl}
+use Rattle.cells.proofs.Filled.{filled_whole, filled_first, filled_next, filled_end}
 use Rattle.roster.specs.Roster.{entry_width, account_width, ceiling_width, highest_ceiling, entries, roster_sound, standing}
 use Rattle.roster.specs.Schools.{is_of, is_account, find_school, ceiling_of, standing_among, standing_of, bytes_of_one, bytes_of}
 use Rattle.roster.specs.declared.schools.School.{School}
@@ -48,6 +50,15 @@ account_wide s None h = rw (length-drop, length-take) (omega arith)
 entry_wide : (s : List ℕ) → parties_end ≤ length s → length (own_entry s) ≡ entry_width
 unfolding own_entry le_bytes
 entry_wide s h = length-append (account_by (kind_of s) s) _ ∙ rw (account_wide s (kind_of s) h) refl
+
+-- an array that account and ceiling fill is the entry
+pub entry_filled : (s : List ℕ) → parties_end ≤ length s → sets (sets (replicate entry_width 0) 0 (account_by (kind_of s) s)) account_width (le_bytes ceiling_width highest_ceiling) ≡ own_entry s
+unfolding joined own_entry le_bytes
+entry_filled s h =
+    let account : List ℕ = account_by (kind_of s) s in
+    let ceiling : List ℕ = le_bytes ceiling_width highest_ceiling in
+    filled_whole {n = entry_width} {ps = account ∷ ceiling ∷ []}
+    (filled_first {p = account} {ps = ceiling ∷ []} refl (account_wide s (kind_of s) h) (filled_next {p = ceiling} {ps = []} refl refl filled_end))
 
 -- the roster of a record that is too short, and of one that is not
 pub own_none : (s : List ℕ) → length s < parties_end → own_roster s ≡ []

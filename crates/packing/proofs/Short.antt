@@ -12,7 +12,7 @@ use Rattle.faults.proofs.Asked.{width_next, width_end}
 
 -- the m parts from one on, which are all that are left of n
 left_short : (s : List ℕ) (n m j : ℕ) → j + m ≡ n → length (fields_text (lent_fields (n - j) s (j * part_width))) ≤ m * 131
-left_short s n zero j h = omega (arith, width_end s n j (j * part_width) (omega arith))
+left_short s n zero j h = omega (arith, width_end s n j (omega arith))
 left_short s n (suc m) j h =
     let at = j * part_width in
     let next = width_next s n j (omega arith) in

@@ -5,7 +5,7 @@ use mathlib.Core.List.{List, [], ◌∷◌, ◌++◌, append_assoc, append-nil}
 use Prim.Native.Nat.{ℕ, suc, ◌+◌, ◌≤◌, ◌<◌}
 use native.Mathlib.Nat.{zero-add}
 use native.Mathlib.Omega.{arith}
-use borrow.Author.Tests.{ltb-true, ltb-false}
+use borrow.Author.Tests.{ltb-true, ltb-false, lt-ltb}
 use lib.Dec.{ltb}
 use lib.ListN.{length, set, length-append}
 use lib.Seq.{sets, set-set, set_comm}
@@ -14,8 +14,12 @@ use Rattle.cells.proofs.Bools.{split}
 use Rattle.cells.proofs.Stores.{sets_append}
 use Rattle.record.specs.Fields.{head_width, Optional}
 use Rattle.writing.specs.Widths.{width_after, capped, all_inside}
-use Rattle.writing.specs.Write.{optional_of, field_text, optional_text, record_text}
+use Rattle.record.specs.Layout.{most_bytes}
+use Rattle.std.specs.Prelude.{Err}
+use Rattle.writing.specs.declared.answer.Refusal.TheVariants.{TooLong}
+use Rattle.writing.specs.Write.{optional_of, field_text, optional_text, record_text, length_judged}
 use Rattle.writing.specs.declared.entries.Entry.{Entry}
+use Rattle.writing.proofs.Records.{width_least}
 use Rattle.writing.proofs.Widths.{record_wide, capped_above, capped_below}
 use Rattle.lent_parts.specs.Faults.{fields_text}
 
@@ -95,3 +99,24 @@ capped_over most n h =
 pub capped_within : (most n : ℕ) → capped most n ≤ most → capped most n ≡ n
 capped_within most n h =
     split (ltb most n) (λ t. absurd (omega (arith, capped_above most n (ltb-true most n t)))) (λ t. sym (capped_below most n (ltb-false most n t)))
+
+-- so one that is too long already is too long with more
+pub whole_long : (w more : ℕ) (out : List ℕ) → most_bytes < capped most_bytes w → length_judged (w + more) out ≡ Err TooLong
+unfolding length_judged
+whole_long w more out h =
+    let o = capped_over most_bytes w h in
+    rw (lt-ltb most_bytes (w + more) (omega arith))
+
+-- the record of a table's fields, the parts' fields from its last field on, and the last field are the record of all fields
+pub all_stored : (out fixed contents : List ℕ) (es : List Entry) (ys : List Optional) (at end : ℕ) → all_inside contents es ≡ true
+    → at + head_width ≡ width_after (length fixed) es → end ≡ at + length (fields_text ys)
+    → sets (sets (sets out 0 (record_text fixed (optional_of contents es))) at (fields_text ys)) end (bytes "*9999") ≡ sets out 0 (record_text fixed (optional_of contents es ++ ys))
+all_stored out fixed contents es ys at end h e g =
+    joined_stored out fixed (optional_of contents es) ys at end (omega (arith, e, front_wide fixed contents es h)) g
+
+-- what stands before the last field of a record, and a length within the most, as it is reckoned
+pub least_wide : (n : ℕ) (es : List Entry) → 5 ≤ width_after n es
+least_wide n es = omega (arith, width_least n es)
+
+pub capped_short : (most n : ℕ) → n ≤ most → capped most n ≡ n
+capped_short most n h = sym (capped_below most n h)

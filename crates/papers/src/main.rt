@@ -19,10 +19,15 @@ const MOST_INPUT: usize = 65536;
 
 // The optional fields; their contents may be no text, so they are written as they are.
 fn show_fields<W: Write>(out: &mut W, listed: Listed) -> io::Result<()> {
-    for entry in listed.table.chunks_exact(ENTRY_WIDTH).take(listed.fields) {
+    let Listed {
+        record,
+        table,
+        fields,
+    } = listed;
+    for entry in table.chunks_exact(ENTRY_WIDTH).take(fields) {
         if let &[id, place, width] = entry {
             write!(out, "  *{id} [")?;
-            out.write_all(part(listed.record, place, place.saturating_add(width)))?;
+            out.write_all(part(record, place, place.saturating_add(width)))?;
             out.write_all(b"]\n")?;
         }
     }

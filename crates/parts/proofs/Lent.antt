@@ -6,14 +6,15 @@ use native.Mathlib.Omega.{arith}
 use lib.ListN.{length, get_or, replicate, length-append}
 use lib.Seq.{slice, take_all, take_at, length-slice}
 use Rattle.cells.proofs.Parts.{next, nothing}
+use Rattle.writing.specs.Digits.{unwritable}
 use Rattle.parts.specs.Loops.{loop, loop_fields}
 use Rattle.parts.specs.Part.{article_width, price_width, part_width, length_at, article_at, article_qualifier_at, price_qualifier_at, currency_at, fitted, lent_price, lent_article, lent_part}
 use Rattle.parts.specs.Fields.{article_text, part_texts, with_ids, part_fields, lent_loop, lent_fields}
 use Rattle.parts.proofs.Fits.{fitted_whole}
-use Rattle.parts.proofs.Texts.{article_written}
+use Rattle.parts.proofs.Texts.{article_written, article_broken}
 
 -- bytes that stand there are as many as their room
-stands : (room from to : ℕ) (s : List ℕ) → to ≤ length s → from + room ≡ to → fitted room (slice from to s) ≡ slice from to s
+pub stands : (room from to : ℕ) (s : List ℕ) → to ≤ length s → from + room ≡ to → fitted room (slice from to s) ≡ slice from to s
 stands room from to s h e = fitted_whole room (slice from to s) (length-slice from to s h ∙ omega arith)
 
 -- of a price
@@ -35,15 +36,19 @@ module _ (s : List ℕ) (at : ℕ) (h : at + part_width ≤ length s) where
   tax_is = rw (next s at (at + 1) (omega arith) (omega arith), nothing (at + 1) (at + 1) s (omega arith))
 
   -- the article, where it is not too long
-  pub article_is_law : get_or s (at + length_at) 0 ≤ article_width
+  pub article_stands : get_or s (at + length_at) 0 ≤ article_width
       → article_text (lent_article s at) ≡ slice (at + article_at) (at + article_at + get_or s (at + length_at) 0) s
   unfolding lent_article fitted
-  article_is_law l =
+  article_stands l =
       let n = get_or s (at + length_at) 0 in
       let x = slice (at + article_at) (at + article_at + n) s in
       let k : length x ≡ n = length-slice (at + article_at) (at + article_at + n) s (omega arith) ∙ omega arith in
       article_written (lent_article s at) l
       ∙ rw (take_all article_width x (omega arith)) (take_at x (replicate (article_width - length x) 0) n k)
+
+  pub article_too_long : article_width < get_or s (at + length_at) 0 → article_text (lent_article s at) ≡ 0 ∷ []
+  unfolding lent_article unwritable
+  article_too_long l = article_broken (lent_article s at) l
 
   -- and its qualifier
   pub article_qualifier_is : (lent_article s at).qualifier ≡ slice (at + article_qualifier_at) (at + part_width) s

@@ -1,90 +1,72 @@
--- The members of a loop by their index, and a loop of a table's fields, one field at a time.
-use mathlib.Core.Path.{◌≡◌, sym, refl}
-use mathlib.Core.Bool.{true, false, ◌&&◌, false≢true}
+-- The members of a loop by their index, and the loop that fields are, one field at a time.
+use mathlib.Core.Path.{◌≡◌, ap, refl}
+use mathlib.Core.Bool.{true, false, ◌&&◌}
 use mathlib.Core.List.{List, [], ◌∷◌}
-use Prim.Native.Nat.{ℕ, zero, suc, ◌+◌, ◌-◌, ◌*◌, ◌≤◌, ◌<◌}
+use Prim.Native.Nat.{ℕ, suc, ◌+◌, ◌-◌, ◌*◌, ◌≤◌, ◌<◌}
+use native.Mathlib.Nat.{add-zero}
 use native.Mathlib.Numerals.{add-one}
+use native.Mathlib.Omega.{arith}
 use borrow.Author.Tests.{eq-eqb, ne_eqb}
-use lib.ListN.{get_or, drop}
-use lib.Seq.{drop-cons}
+use lib.ListN.{length, get_or, drop}
+use lib.Seq.{drop-cons, get_or-drop}
+use Rattle.cells.proofs.Bools.{and_false}
 use Rattle.rules.specs.Rule.{keeps}
-use Rattle.record.specs.Contents.{is_in}
 use Rattle.record.specs.Fields.{Optional}
 use Rattle.record.specs.Read.{entry_width}
-use Rattle.writing.specs.Write.{entry_of, entries, content_in, optional_in, optional_of}
+use Rattle.writing.specs.Write.{entry_of, entries, optional_in, optional_of}
 use Rattle.writing.specs.declared.entries.Entry.{Entry}
-use Rattle.writing.proofs.Tables.{entry_from, entry_here, entries_end}
+use Rattle.writing.proofs.Halves.{entries_length, fields_length, fields_drop}
+use Rattle.writing.proofs.Tables.{entry_from, entries_first, entries_end}
 use Rattle.parts.specs.Loops.{loop, loop_fields, part_id, no_member, is_member, is_loop, others_in}
+use Rattle.parts.specs.Part.{no_optional}
 use Rattle.parts.specs.Entries.{others_among}
 
-abbrev pub indexes : List ℕ
-indexes = 0 ∷ 1 ∷ 2 ∷ 3 ∷ 4 ∷ 5 ∷ 6 ∷ 7 ∷ 8 ∷ 9 ∷ []
+-- the field with an index of those that a table's entries name
+pub field_at : (contents : List ℕ) (count i : ℕ) (table : List ℕ) → i < count
+    → get_or (optional_of contents (entries count table)) i no_optional ≡ optional_in contents (entry_of (drop (i * entry_width) table))
+unfolding optional_of
+field_at contents count i table h =
+    let e : i + (count - i) ≡ count = omega arith in
+    let fs = optional_of contents (entries count table) in
+    let d : drop i fs ≡ optional_of contents (entries (count - i) (drop (i * entry_width) table)) = rw e at (fields_drop contents i (count - i) table) in
+    let g : get_or fs i no_optional ≡ get_or (drop i fs) 0 no_optional = rw (get_or-drop, add-zero) in
+    rw (g, d, entries_first count i table h)
 
--- past the last member there is no ID
-pub no_id : (i : ℕ) → is_in i indexes ≡ false → 0 ≡ (get_or loop i no_member).id
-unfolding is_in loop
-no_id zero h = absurd (false≢true (sym h))
-no_id (suc zero) h = absurd (false≢true (sym h))
-no_id (suc (suc zero)) h = absurd (false≢true (sym h))
-no_id (suc (suc (suc zero))) h = absurd (false≢true (sym h))
-no_id (suc (suc (suc (suc zero)))) h = absurd (false≢true (sym h))
-no_id (suc (suc (suc (suc (suc zero))))) h = absurd (false≢true (sym h))
-no_id (suc (suc (suc (suc (suc (suc zero)))))) h = absurd (false≢true (sym h))
-no_id (suc (suc (suc (suc (suc (suc (suc zero))))))) h = absurd (false≢true (sym h))
-no_id (suc (suc (suc (suc (suc (suc (suc (suc zero)))))))) h = absurd (false≢true (sym h))
-no_id (suc (suc (suc (suc (suc (suc (suc (suc (suc zero))))))))) h = absurd (false≢true (sym h))
-no_id (suc (suc (suc (suc (suc (suc (suc (suc (suc (suc n)))))))))) h = refl
+-- and how many fields they name
+pub fields_long : (contents : List ℕ) (count : ℕ) (table : List ℕ) → length (optional_of contents (entries count table)) ≡ count
+fields_long contents count table = rw (fields_length, entries_length)
 
--- but for the two price qualifiers a loop asks nothing of a content
-pub all_free : (s : List ℕ) (i : ℕ) → (i ≡ 2 → ⊥) → (i ≡ 5 → ⊥) → true ≡ keeps (get_or loop i no_member).rule [] s
-unfolding loop keeps
-all_free s zero two five = refl
-all_free s (suc zero) two five = refl
-all_free s (suc (suc zero)) two five = absurd (two refl)
-all_free s (suc (suc (suc zero))) two five = refl
-all_free s (suc (suc (suc (suc zero)))) two five = refl
-all_free s (suc (suc (suc (suc (suc zero))))) two five = absurd (five refl)
-all_free s (suc (suc (suc (suc (suc (suc zero)))))) two five = refl
-all_free s (suc (suc (suc (suc (suc (suc (suc zero))))))) two five = refl
-all_free s (suc (suc (suc (suc (suc (suc (suc (suc zero)))))))) two five = refl
-all_free s (suc (suc (suc (suc (suc (suc (suc (suc (suc zero))))))))) two five = refl
-all_free s (suc (suc (suc (suc (suc (suc (suc (suc (suc (suc n)))))))))) two five = refl
-
--- the members from one with an index on
-members_first : (i : ℕ) → i < loop_fields → drop i loop ≡ get_or loop i no_member ∷ drop (i + 1) loop
-unfolding loop
-members_first i h = rw add-one (drop-cons loop i no_member h)
-
--- a loop in a table's first fields, at the field with an index
-module _ (contents table : List ℕ) (i : ℕ) (h : i < loop_fields) (e : Entry) (q : e ≡ entry_of (drop (i * entry_width) table)) where
-  here : is_loop (drop i loop) (optional_of contents (entries (loop_fields - i) (drop (i * entry_width) table)))
-      ≡ is_member (get_or loop i no_member) (optional_in contents e)
-      && is_loop (drop (i + 1) loop) (optional_of contents (entries (loop_fields - (i + 1)) (drop ((i + 1) * entry_width) table)))
-  unfolding is_loop optional_of
-  here = rw (members_first i h, entry_here loop_fields i table h e q)
+module _ (i : ℕ) (fs : List Optional) where
+  -- the fields from one with an index on are the members from there on where it is its member, and those behind it are theirs
+  here : i < loop_fields → i < length fs
+      → is_loop (drop i loop) (drop i fs) ≡ is_member (get_or loop i no_member) (get_or fs i no_optional) && is_loop (drop (i + 1) loop) (drop (i + 1) fs)
+  unfolding is_loop loop
+  here h l = rw (add-one, drop-cons loop i no_member h, drop-cons fs i no_optional l)
 
   -- another ID, and another content than the loop asks for
-  pub other_id : (e.id ≡ (get_or loop i no_member).id → ⊥) → is_loop (drop i loop) (optional_of contents (entries (loop_fields - i) (drop (i * entry_width) table))) ≡ false
-  unfolding is_member optional_in
-  other_id n = rw (here, ne_eqb _ _ n)
+  pub other_id : i < loop_fields → i < length fs → ((get_or fs i no_optional).id ≡ (get_or loop i no_member).id → ⊥)
+      → is_loop (drop i loop) (drop i fs) ≡ false
+  unfolding is_member
+  other_id h l n = rw (here h l, ne_eqb _ _ n)
 
-  module _ (m : e.id ≡ (get_or loop i no_member).id) where
-    pub not_asked : keeps (get_or loop i no_member).rule [] (content_in contents e) ≡ false
-        → is_loop (drop i loop) (optional_of contents (entries (loop_fields - i) (drop (i * entry_width) table))) ≡ false
-    unfolding is_member optional_in
-    not_asked n = rw (here, eq-eqb _ _ m, n)
+  pub not_asked : i < loop_fields → i < length fs → keeps (get_or loop i no_member).rule [] (get_or fs i no_optional).content ≡ false
+      → is_loop (drop i loop) (drop i fs) ≡ false
+  unfolding is_member
+  not_asked h l n = rw (here h l, n, and_false)
 
-    -- or the loop goes on with the next field
-    pub loop_next : keeps (get_or loop i no_member).rule [] (content_in contents e) ≡ true
-        → is_loop (drop i loop) (optional_of contents (entries (loop_fields - i) (drop (i * entry_width) table)))
-        ≡ is_loop (drop (i + 1) loop) (optional_of contents (entries (loop_fields - (i + 1)) (drop ((i + 1) * entry_width) table)))
-    unfolding is_member optional_in
-    loop_next a = rw (here, eq-eqb _ _ m, a)
+  -- or the loop goes on with the next field
+  pub member_passed : i < loop_fields → i < length fs → (get_or fs i no_optional).id ≡ (get_or loop i no_member).id
+      → keeps (get_or loop i no_member).rule [] (get_or fs i no_optional).content ≡ true
+      → is_loop (drop i loop) (drop i fs) ≡ is_loop (drop (i + 1) loop) (drop (i + 1) fs)
+  unfolding is_member
+  member_passed h l m a = rw (here h l, eq-eqb _ _ m, a)
 
--- with no member left it is whole
-pub loop_end : (fs : List Optional) (i : ℕ) → i ≡ loop_fields → is_loop (drop i loop) fs ≡ true
-unfolding is_loop loop
-loop_end fs i e = rw e
+  -- with no member left it is whole
+  pub loop_end : i ≡ loop_fields → is_loop (drop i loop) (drop i fs) ≡ true
+  unfolding is_loop loop
+  loop_end e = rw e
+
+pub ruleset loop_judged = (fields_long, other_id, not_asked, member_passed, loop_end)
 
 -- as many fields stand before the loops as entries do
 pub others_named : (contents : List ℕ) (es : List Entry) → others_in (optional_of contents es) ≡ others_among es
@@ -93,16 +75,18 @@ others_named contents [] = refl
 others_named contents (e ∷ es) = rw (others_named contents es)
 
 -- how many entries stand before a loop, at the entry with an index
-module _ (count i : ℕ) (table : List ℕ) (h : i < count) where
-  pub others_here : get_or table (i * entry_width) 0 ≡ part_id → others_among (entries (count - i) (drop (i * entry_width) table)) ≡ 0
+module _ (count i : ℕ) (table : List ℕ) where
+  pub others_here : i < count → get_or table (i * entry_width) 0 ≡ part_id → others_among (entries (count - i) (drop (i * entry_width) table)) ≡ 0
   unfolding others_among
-  others_here e = rw (entry_here count i table h _ refl, entry_from (i * entry_width) table, eq-eqb _ _ e)
+  others_here h e = rw (entries_first count i table h, entry_from (i * entry_width) table, eq-eqb _ _ e)
 
-  pub others_next : (get_or table (i * entry_width) 0 ≡ part_id → ⊥)
+  pub others_next : i < count → (get_or table (i * entry_width) 0 ≡ part_id → ⊥)
       → others_among (entries (count - i) (drop (i * entry_width) table)) ≡ suc (others_among (entries (count - (i + 1)) (drop ((i + 1) * entry_width) table)))
   unfolding others_among
-  others_next e = rw (entry_here count i table h _ refl, entry_from (i * entry_width) table, ne_eqb _ _ e)
+  others_next h e = rw (entries_first count i table h, entry_from (i * entry_width) table, ne_eqb _ _ e)
 
-pub others_end : (count i : ℕ) (table : List ℕ) → count ≤ i → others_among (entries (count - i) table) ≡ 0
-unfolding others_among
-others_end count i table h = rw (entries_end count i table h)
+  pub others_end : count ≤ i → others_among (entries (count - i) (drop (i * entry_width) table)) ≡ 0
+  unfolding others_among
+  others_end h = rw (entries_end count i (drop (i * entry_width) table) h)
+
+pub ruleset others_counted = (others_here, others_next, others_end)

@@ -19,25 +19,26 @@ module _ (fixed table : List ℕ) (count : ℕ) (contents parts : List ℕ) (n :
   unfolding write_parts written_with parts_refused
   too_many h = rw (lt-ltb most_parts n h)
 
-  module _ (few : n ≤ most_parts) where
-    -- 23
-    pub small_room : length parts < n * part_width → write_parts fixed table count contents parts n out ≡ outcome (not_written SmallRoom) out
-    unfolding write_parts written_with parts_refused
-    small_room h = rw (le-ltb most_parts n few, lt-ltb (length parts) (n * part_width) h)
+  -- 23
+  pub small_room : n ≤ most_parts → length parts < n * part_width → write_parts fixed table count contents parts n out ≡ outcome (not_written SmallRoom) out
+  unfolding write_parts written_with parts_refused
+  small_room few h = rw (le-ltb most_parts n few, lt-ltb (length parts) (n * part_width) h)
 
-    module _ (lent : n * part_width ≤ length parts) where
-      -- 26
-      pub misplaced : is_misplaced fixed table count n ≡ true → write_parts fixed table count contents parts n out ≡ outcome (not_written Broken) out
-      unfolding write_parts written_with parts_refused is_broken
-      misplaced h = rw (le-ltb most_parts n few, le-ltb (length parts) (n * part_width) lent, h)
+  -- 26
+  pub misplaced : n ≤ most_parts → n * part_width ≤ length parts → is_misplaced fixed table count n ≡ true
+      → write_parts fixed table count contents parts n out ≡ outcome (not_written Broken) out
+  unfolding write_parts written_with parts_refused is_broken
+  misplaced few lent h = rw (le-ltb most_parts n few, le-ltb (length parts) (n * part_width) lent, h)
 
-      module _ (placed : is_misplaced fixed table count n ≡ false) where
-        pub no_loops : are_loops n (lent_fields n parts 0) ≡ false → write_parts fixed table count contents parts n out ≡ outcome (not_written Broken) out
-        unfolding write_parts written_with parts_refused is_broken
-        no_loops h = rw (le-ltb most_parts n few, le-ltb (length parts) (n * part_width) lent, placed, h)
+  pub no_loops : n ≤ most_parts → n * part_width ≤ length parts → is_misplaced fixed table count n ≡ false → are_loops n (lent_fields n parts 0) ≡ false
+      → write_parts fixed table count contents parts n out ≡ outcome (not_written Broken) out
+  unfolding write_parts written_with parts_refused is_broken
+  no_loops few lent placed h = rw (le-ltb most_parts n few, le-ltb (length parts) (n * part_width) lent, placed, h)
 
-        -- and then the rest over all fields
-        pub parts_taken : are_loops n (lent_fields n parts 0) ≡ true
-            → write_parts fixed table count contents parts n out ≡ write_with (lent_fields n parts 0) fixed table count contents out
-        unfolding write_parts written_with parts_refused is_broken
-        parts_taken h = rw (le-ltb most_parts n few, le-ltb (length parts) (n * part_width) lent, placed, h)
+  -- and then the rest over all fields
+  pub parts_taken : n ≤ most_parts → n * part_width ≤ length parts → is_misplaced fixed table count n ≡ false → are_loops n (lent_fields n parts 0) ≡ true
+      → write_parts fixed table count contents parts n out ≡ write_with (lent_fields n parts 0) fixed table count contents out
+  unfolding write_parts written_with parts_refused is_broken
+  parts_taken few lent placed h = rw (le-ltb most_parts n few, le-ltb (length parts) (n * part_width) lent, placed, h)
+
+pub ruleset staged = (too_many, small_room, misplaced, no_loops, parts_taken)

@@ -26,6 +26,13 @@ module _ (p : PartPrice) where
   unfolding amount_text
   amount_broken h = rw (lt-leb p.digits most_digits h)
 
+  -- as long as it has digits, or one byte
+  pub amount_digits : p.digits ≤ most_digits → length (amount_text p) ≡ p.digits
+  amount_digits h = rw (amount_written h) (number_length p.digits p.amount.0)
+
+  pub amount_one : most_digits < p.digits → length (amount_text p) ≡ 1
+  amount_one h = rw (amount_broken h) (unwritable_length 1)
+
   -- and has room among the most
   pub amount_fits : length (amount_text p) ≤ most_digits
   unfolding amount_text
@@ -33,6 +40,8 @@ module _ (p : PartPrice) where
       split (leb p.digits most_digits)
       (λ e. rw (e, number_length p.digits p.amount.0) (leb-true _ _ e))
       (λ e. rw (e, unwritable_length 1) (omega arith))
+
+pub ruleset amount_long = (amount_digits, amount_one)
 
 -- an article has its bytes, or is unwritable where they are too many
 module _ (a : PartArticle) where

@@ -2,6 +2,7 @@ pub mod Verdicts
 pub mod Loops
 pub mod Part
 pub mod Fields
+pub mod Named
 pub mod Answers
 pub mod Read
 pub mod Entries

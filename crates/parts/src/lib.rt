@@ -6,3 +6,4 @@ pub mod entry;
 pub mod fit;
 pub mod loops;
 pub mod part;
+pub mod table;

@@ -13,7 +13,7 @@ pub enum Medium {
 }
 
 // A price with the number of digits that it is written with.
-#[derive(Clone, Copy)]
+#[derive(Clone, Copy, PartialEq, Eq, Debug)]
 pub struct PartPrice {
     pub amount: Price,
     pub digits: u8,
@@ -29,7 +29,7 @@ pub struct PartArticle {
     pub qualifier: [u8; 2],
 }
 
-#[derive(Clone, Copy)]
+#[derive(Clone, Copy, PartialEq, Eq, Debug)]
 pub struct Part {
     pub tax: u8,
     pub medium: Medium,

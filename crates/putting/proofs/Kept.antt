@@ -2,22 +2,20 @@
 use mathlib.Core.Path.{◌≡◌, ◌∙◌, ap, refl}
 use mathlib.Core.Bool.{Bool, true, false, false≢true}
 use mathlib.Core.List.{List, [], ◌∷◌, ◌++◌}
-use mathlib.Core.Logic.{◌≢◌}
 use Prim.Native.Nat.{ℕ, zero, suc, ◌+◌, ◌^◌, ◌≤◌}
 use native.Mathlib.Nat.{zero-add}
 use native.Mathlib.Omega.{arith}
-use borrow.Author.Tests.{leb-true, ne_eqb}
-use lib.Dec.{leb, ltb, eqb}
+use borrow.Author.Tests.{leb-true}
+use lib.Dec.{leb, ltb}
 use lib.ListN.{length}
-use Rattle.cells.specs.Bytes.{all, bytes}
+use Rattle.cells.specs.Bytes.{all}
 use Rattle.cells.proofs.Bools.{split}
 use Rattle.record.specs.Fields.{Optional}
 use Rattle.writing.specs.Digits.{digits_of, unwritable, number_bytes}
-use Rattle.parts.specs.Part.{most_digits, article_width, medium_in, is_medium}
-use Rattle.parts.specs.Fields.{amount_text, article_text, medium_text}
+use Rattle.parts.specs.Part.{most_digits}
+use Rattle.parts.specs.Fields.{amount_text, medium_text}
 use Rattle.parts.specs.declared.part.Medium.{Medium}
 use Rattle.parts.specs.declared.part.PartPrice.{PartPrice}
-use Rattle.parts.specs.declared.part.PartArticle.{PartArticle}
 use Rattle.lent_parts.specs.Faults.{is_kept, first_fault}
 
 -- each of the fields can be written
@@ -65,28 +63,8 @@ module _ (id : ℕ) (p : PartPrice) (e : is_kept id (amount_text p) ≡ true) wh
   unfolding amount_text
   amount_kept = rw few (number_kept id p.digits p.amount.0 (rw few at e))
 
--- an article that can be written is no longer than the most
-module _ (id : ℕ) (a : PartArticle) (e : is_kept id (article_text a) ≡ true) where
-  short : leb a.length article_width ≡ true
-  unfolding article_text
-  short = split (leb a.length article_width) (λ t. t) (λ t. absurd (broken id 0 (rw t at e)))
-
-  pub article_most : a.length ≤ article_width
-  article_most = leb-true a.length article_width short
-
 -- a medium that can be written is named
 pub medium_kept : (id : ℕ) (named : Bool) (m : Medium) → is_kept id (medium_text named m) ≡ true → named ≡ true
 unfolding medium_text
 medium_kept id true m e = refl
 medium_kept id false m e = absurd (broken id 2 e)
-
--- a byte that is the first medium's names it, any other of a medium names the second
-pub first_medium : (b : ℕ) → b ≡ 1 → bytes "PHY" ≡ medium_text true (medium_in b)
-unfolding medium_text medium_in
-first_medium b e = rw e
-
-pub second_medium : (b : ℕ) → is_medium b ≡ true → b ≢ 1 → bytes "DIG" ≡ medium_text true (medium_in b)
-unfolding medium_text medium_in is_medium
-second_medium b e n =
-    let two : eqb b 2 ≡ true = rw (ne_eqb b 1 n) at e in
-    rw two

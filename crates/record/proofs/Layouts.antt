@@ -1,10 +1,13 @@
 -- The fields of a layout, one after the other.
-use mathlib.Core.Path.{◌≡◌, ◌∙◌, ap, sym, refl}
+use mathlib.Core.Path.{◌≡◌, ◌∙◌, ap, refl}
 use mathlib.Core.List.{List, [], ◌∷◌, ◌++◌}
 use Prim.Native.Nat.{ℕ, suc, ◌+◌, ◌≤◌, ◌<◌}
 use native.Mathlib.Numerals.{add-one}
 use native.Mathlib.Omega.{arith}
+use borrow.Author.Tests.{ltb-true, ltb-false}
+use lib.Dec.{ltb}
 use lib.ListN.{length, get_or, take, drop, take-append-drop, drop_of_length-le, get_or-append, get_or-eq_default}
+use Rattle.std.proofs.lemmas.Bool.Decides.{nat_tests}
 use Rattle.std.proofs.lemmas.List.{get_or-take, length-take}
 use lib.Seq.{slice, take-suc, take_all, drop-cons, drop-drop}
 use Rattle.cells.specs.Bytes.{pick, among}
@@ -138,13 +141,16 @@ unfolding first_broken keeps
 head_judged s =
     rw (drop-drop 10 4 s, drop-drop 2 14 s, drop-drop 10 16 s, take_from 10 4 s, take_from 2 14 s, take_from 10 16 s, take_from 2 26 s)
 
--- one of them broken: it is found first
-pub head_front : (k : Kind) (s : List ℕ) → first_broken head s < 5 → first_broken head s ≡ first_broken (layout k) s
-head_front k s h = rw (begins k) (sym (broken_front head (drop 5 (layout k)) s h))
-
--- none of them broken: what is found first is found after them
-pub head_behind : (k : Kind) (s : List ℕ) → 5 ≤ first_broken head s → 5 + first_broken (drop 5 (layout k)) (drop 28 s) ≡ first_broken (layout k) s
+-- one of them broken is found first; where none is, what is found first is found after them
+pub broken_parts : (k : Kind) (s : List ℕ)
+    → first_broken (layout k) s
+    ≡ pick (ltb (first_broken head s) 5) (first_broken head s) (5 + first_broken (drop 5 (layout k)) (drop 28 s))
 unfolding total
-head_behind k s h =
-    let e : first_broken head s ≡ 5 = omega (arith, h, broken_most head s) in
-    sym (ap (λ (fs : List Field). first_broken fs s) (begins k) ∙ broken_behind head (drop 5 (layout k)) s e)
+broken_parts k s =
+    split (ltb (first_broken head s) 5)
+    (λ t. rw t (ap (λ (fs : List Field). first_broken fs s) (begins k) ∙ broken_front head (drop 5 (layout k)) s (ltb-true _ _ t)))
+    (λ t.
+    let e : first_broken head s ≡ 5 = omega (arith, ltb-false _ 5 t, broken_most head s) in
+    rw t (ap (λ (fs : List Field). first_broken fs s) (begins k) ∙ broken_behind head (drop 5 (layout k)) s e))
+
+pub ruleset found_first = (broken_parts, nat_tests)

@@ -12,9 +12,10 @@ use Rattle.record.specs.declared.answer.Refusal.TheVariants.{TooLong, UnknownKin
 use Rattle.record.specs.Verdicts.{Verdict}
 use Rattle.record.specs.declared.layout.Kind.{Kind}
 use Rattle.record.specs.declared.answer.Checked.{Checked}
-use Rattle.record.specs.declared.answer.ReadOrder.{ReadOrder}
-use Rattle.record.specs.declared.answer.ReadDelivery.{ReadDelivery}
-use Rattle.record.specs.declared.answer.ReadReport.{ReadReport}
+use Rattle.record.specs.declared.answer.ReadAs.{ReadAs}
+use Rattle.record.specs.declared.values.Order.{Order}
+use Rattle.record.specs.declared.values.Delivery.{Delivery}
+use Rattle.record.specs.declared.values.Report.{Report}
 
 -- 4, at the byte
 unfoldable pub bytes_judged : List ℕ → Verdict
@@ -83,24 +84,16 @@ judged_as name s =
     pick (ltb most_bytes (length s)) (Err TooLong)
     (pick (same (slice 0 kind_width s) name) (judged s) (Err UnknownKind))
 
--- the typed record, or zeros on a refusal
-unfoldable pub order_from : Verdict → List ℕ → ReadOrder
-order_from (Err r) s = record { checked = checked_of (Err r); order = no_order }
-order_from (Ok n) s = record { checked = checked_of (Ok n); order = order_of s }
+-- a record read into typed values: the values of its bytes, or zeros on a refusal
+unfoldable pub typed_from : {T : Type 0} → T → (List ℕ → T) → Verdict → List ℕ → ReadAs T
+typed_from zeros values (Err r) s = record { checked = checked_of (Err r); value = zeros }
+typed_from zeros values (Ok n) s = record { checked = checked_of (Ok n); value = values s }
 
-unfoldable pub read_order : List ℕ → ReadOrder
-read_order s = order_from (judged_as (bytes "B101") s) s
+unfoldable pub read_order : List ℕ → ReadAs Order
+read_order s = typed_from no_order order_of (judged_as (bytes "B101") s) s
 
-unfoldable pub delivery_from : Verdict → List ℕ → ReadDelivery
-delivery_from (Err r) s = record { checked = checked_of (Err r); delivery = no_delivery }
-delivery_from (Ok n) s = record { checked = checked_of (Ok n); delivery = delivery_of s }
+unfoldable pub read_delivery : List ℕ → ReadAs Delivery
+read_delivery s = typed_from no_delivery delivery_of (judged_as (bytes "L101") s) s
 
-unfoldable pub read_delivery : List ℕ → ReadDelivery
-read_delivery s = delivery_from (judged_as (bytes "L101") s) s
-
-unfoldable pub report_from : Verdict → List ℕ → ReadReport
-report_from (Err r) s = record { checked = checked_of (Err r); report = no_report }
-report_from (Ok n) s = record { checked = checked_of (Ok n); report = report_of s }
-
-unfoldable pub read_report : List ℕ → ReadReport
-read_report s = report_from (judged_as (bytes "M101") s) s
+unfoldable pub read_report : List ℕ → ReadAs Report
+read_report s = typed_from no_report report_of (judged_as (bytes "M101") s) s

@@ -3,7 +3,6 @@ ghost use Rattle.std.specs.Prelude.{◌≡◌};
 ghost use Rattle.record.specs.Answers.{refusal_number, refusal_place, checked_of};
 
 use crate::layout::MOST_BYTES;
-use crate::values::{Delivery, Order, Report};
 use std::fmt;
 
 #[derive(Clone, Copy, PartialEq, Eq, Debug)]
@@ -40,22 +39,11 @@ pub struct Checked {
     pub fields: usize,
 }
 
+// A record read into typed values: what is answered, and the values, zeros on a refusal.
 #[derive(Clone, Copy, PartialEq, Eq, Debug)]
-pub struct ReadOrder {
+pub struct ReadAs<T> {
     pub checked: Checked,
-    pub order: Order,
-}
-
-#[derive(Clone, Copy, PartialEq, Eq, Debug)]
-pub struct ReadDelivery {
-    pub checked: Checked,
-    pub delivery: Delivery,
-}
-
-#[derive(Clone, Copy, PartialEq, Eq, Debug)]
-pub struct ReadReport {
-    pub checked: Checked,
-    pub report: Report,
+    pub value: T,
 }
 
 impl Refusal {

@@ -45,6 +45,7 @@ pub fn content_rule(id: usize) -> Rule
 }
 
 // Whether a content keeps the rule of its ID; no content has one of the other rules.
+#[tactic(auto, unfolding(rules::specs::Rule::keeps))]
 pub fn rule_kept(id: usize, content: &[u8]) -> bool
     ensures { result ≡ keeps (content_rule id) [] content.now }
 {
@@ -71,6 +72,7 @@ pub fn is_guarded(k: Kind, id: usize) -> bool
 }
 
 // Whether a byte is one that a guarded field may not hold.
+#[tactic(auto, using(crate::proofs::Barred::not_unbarred))]
 pub fn is_barred(guard: bool, b: u8) -> bool
     ensures { result ≡ (guard && barred b) }
 {

@@ -322,6 +322,7 @@ pub fn start_of(k: Kind, index: usize) -> usize
 }
 
 // The index of the first that breaks its rule of the fields that every record begins with, or their number; the kind breaks none.
+#[tactic(auto, using(crate::proofs::Layouts::head_judged))]
 fn head_broken(s: &[u8]) -> usize
     ensures { result ≡ first_broken head s.now }
 {
@@ -364,6 +365,7 @@ fn rest_broken(k: Kind, s: &[u8]) -> usize
 }
 
 // The index of the first fixed field that breaks its rule, or the number of fields where none does.
+#[tactic(auto, using(crate::proofs::Layouts::found_first))]
 pub fn first_broken(k: Kind, s: &[u8]) -> usize
     ensures { result ≡ first_broken (layout k) s.now }
 {

@@ -5,20 +5,20 @@ use rules::day::Day;
 use rules::expected::Expected;
 
 // An address and its qualifier.
-#[derive(Clone, Copy, PartialEq, Eq, Debug)]
+#[derive(Clone, Copy, PartialEq, Eq, Debug, Default)]
 pub struct Party {
     pub address: [u8; 10],
     pub qualifier: [u8; 2],
 }
 
-#[derive(Clone, Copy, PartialEq, Eq, Debug)]
+#[derive(Clone, Copy, PartialEq, Eq, Debug, Default)]
 pub struct Article {
     pub number: [u8; 13],
     pub qualifier: [u8; 2],
 }
 
 // A B101.
-#[derive(Clone, Copy, PartialEq, Eq, Debug)]
+#[derive(Clone, Copy, PartialEq, Eq, Debug, Default)]
 pub struct Order {
     pub sender: Party,
     pub recipient: Party,
@@ -30,7 +30,7 @@ pub struct Order {
 }
 
 // An L101; a closing record has the day 0 of month 0 of year 0.
-#[derive(Clone, Copy, PartialEq, Eq, Debug)]
+#[derive(Clone, Copy, PartialEq, Eq, Debug, Default)]
 pub struct Delivery {
     pub sender: Party,
     pub recipient: Party,
@@ -48,7 +48,7 @@ pub struct Delivery {
 }
 
 // An M101.
-#[derive(Clone, Copy, PartialEq, Eq, Debug)]
+#[derive(Clone, Copy, PartialEq, Eq, Debug, Default)]
 pub struct Report {
     pub sender: Party,
     pub recipient: Party,

@@ -1,4 +1,4 @@
--- An orderly book starts from the history that its entries state: demand 3 from there on.
+-- An orderly book starts from the history that its entries state: what booking promises, from there on.
 use mathlib.Core.Path.{◌≡◌, ◌∙◌, subst, refl}
 use mathlib.Core.List.{List, ◌++◌, map, append-nil}
 use native.Mathlib.Omega.{arith}
@@ -47,7 +47,7 @@ unfolding told
 told_gives b o =
     history_gives (rooms_of b) (used_lines b) (used_slips b) (line_told b.lines) (slip_told b.lines b.slips) (slip_line_at b.slips) (entries_told b o)
 
--- demand 3 from there on
+-- what booking promises, from there on
 pub resumes : Resumes
 resumes b records o two =
     let rooms : Rooms = rooms_of b in

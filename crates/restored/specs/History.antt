@@ -1,4 +1,4 @@
--- Demand 3 goes on after a load, from the history that the loaded entries tell: the statement (RULES 9.5).
+-- What booking promises goes on after a load, from the history that the loaded entries tell: the statement (RULES 9.5).
 use Rattle.std.specs.Prelude.{ℕ, ◌≡◌, List, [], ◌∷◌, ◌++◌, map, length}
 use Rattle.std.proofs.Math.Option.{Option, none, some}
 use Rattle.ledger.specs.Book.{Report, Line, Slip, Book}
@@ -45,7 +45,7 @@ state_after b records =
       accepted = history_of (told b) ++ map fit_of (give_all (resumed b) records).accepted;
     }
 
--- for every book that keeps the rules of a save, as each loaded one does, and every list of byte strings, each with a roster, given to it: demand 3 holds, with the history that its entries state before the records accepted
+-- for every book that keeps the rules of a save, as each loaded one does, and every list of byte strings, each with a roster, given to it: the promise of booking on lists holds, with the history that its entries state before the records accepted
 abbrev pub Resumes : Type 0
 Resumes = (b : Lent) (records : List Met) → Orderly b → length b.used ≡ 2 → Promise3 (rooms_of b) (state_after b records)
 

@@ -7,7 +7,7 @@ ghost use Rattle.roster.specs.Roster.{entry_width, roster_sound, account_is, fin
 pub mod schools;
 
 use cells::little::get;
-use cells::same;
+use cells::same_by;
 
 // An entry: address 10, qualifier 2, ceiling 4. The first two are the account.
 pub const ENTRY_WIDTH: usize = 16;
@@ -32,7 +32,7 @@ fn account_is(roster: &[u8], i: usize, account: &[u8]) -> bool
 {
     let at = ENTRY_WIDTH * i;
     let end = at + ACCOUNT_WIDTH;
-    same(&roster[at..end], account)
+    same_by(&roster[at..end], account, 0)
 }
 
 // The first entry with an account; it is whole.

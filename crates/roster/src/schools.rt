@@ -3,7 +3,7 @@ ghost use Rattle.std.specs.Prelude.{◌≡◌, length};
 ghost use Rattle.roster.specs.Schools.{is_of, find_school, ceiling_of, standing_of, refused_number, said, told_as};
 
 use crate::MOST_SCHOOLS;
-use cells::same;
+use cells::{same, same_by};
 use std::convert::From;
 
 // An entry of the roster: in memory the 16 bytes of one.
@@ -47,7 +47,7 @@ impl From<Refused> for u64 {
 fn is_of(school: &School, address: &[u8], qualifier: &[u8]) -> bool
     ensures { result ≡ is_of school.now address.now qualifier.now }
 {
-    same(&school.address, address) && same(&school.qualifier, qualifier)
+    same_by(&school.address, address, 0) && same(&school.qualifier, qualifier)
 }
 
 // The index of the first school with an account.

@@ -1,5 +1,5 @@
 // Prices, discounts and copies, kept apart from each other.
-ghost use Rattle.std.specs.Prelude.{◌≡◌, ℕ, ◌≤◌, length};
+ghost use Rattle.std.specs.Prelude.{◌≡◌, ℕ, ◌≤◌, length, Some, decimal};
 ghost use Rattle.rules.specs.Number.{number};
 ghost use Rattle.rules.specs.Values.{price, discount, copies};
 
@@ -7,16 +7,16 @@ use crate::number::number_of;
 use std::fmt;
 
 // Ten-thousandths of the currency.
-#[derive(Clone, Copy, PartialEq, Eq, Debug)]
+#[derive(Clone, Copy, PartialEq, Eq, Debug, Default)]
 pub struct Price(pub u64);
 
 // Ten-thousandths of a percent.
-#[derive(Clone, Copy, PartialEq, Eq, Debug)]
+#[derive(Clone, Copy, PartialEq, Eq, Debug, Default)]
 pub struct Discount(pub u64);
 
 // So many copies; a number of 64 bits for C too.
 #[repr(C)]
-#[derive(Clone, Copy, PartialEq, Eq, Debug)]
+#[derive(Clone, Copy, PartialEq, Eq, Debug, Default)]
 pub struct Copies(pub u64);
 
 // What digits count of: `of` gives that many.
@@ -60,7 +60,10 @@ pub fn amount_of<A: Amount>(s: &[u8]) -> A
 }
 
 impl fmt::Display for Copies {
+    ghost output = { λ c. Some (decimal c.0) };
+
     fn fmt<W: fmt::Write>(&self, f: &mut fmt::Formatter<W>) -> fmt::Result {
-        write!(f, "{}", self.0)
+        let n = self.0;
+        write!(f, "{n}")
     }
 }

@@ -1,14 +1,14 @@
 // A day of the Gregorian calendar.
-ghost use Rattle.std.specs.Prelude.{◌≡◌, length, get_or};
+ghost use Rattle.std.specs.Prelude.{◌≡◌, ◌++◌, length, get_or, Some, codes, decimal};
 ghost use Rattle.rules.specs.Day.{day_width, month_lengths, leap, month_days, real_day, day_of, dated};
-ghost use Rattle.signs.specs.Class.{digit, all_of};
+ghost use Rattle.signs.specs.Class.{all_of};
 ghost use Rattle.signs.specs.declared.Class.TheVariants.{Digit};
 
 use crate::number::pair_at;
-use signs::{NINE, ZERO};
+use signs::{Class, belongs_to};
 use std::fmt;
 
-#[derive(Clone, Copy, PartialEq, Eq, Debug)]
+#[derive(Clone, Copy, PartialEq, Eq, Debug, Default)]
 pub struct Day {
     pub year: u64,
     pub month: u64,
@@ -54,23 +54,16 @@ fn month_days(year: u64, month: u64) -> u64
     28
 }
 
-fn is_digit(b: u8) -> bool
-    ensures { result ≡ digit b }
-{
-    (ZERO..=NINE).contains(&b)
-}
-
-// Whether eight bytes are digits; none of them ends the test, so that they are judged together.
-#[tactic(auto, using(crate::proofs::Days::eight_digits))]
+// Whether bytes are digits; none of them ends the test, so that they are judged together.
+#[tactic(auto, unfolding(signs::specs::Class::all_of), using(signs::proofs::Runs::all_on, signs::proofs::Runs::all_end))]
 fn are_digits(s: &[u8]) -> bool
-    requires { length s.now ≡ day_width }
     ensures { result ≡ all_of Digit s.now }
 {
-    is_digit(s[0])
-        & (is_digit(s[1])
-            & (is_digit(s[2])
-                & (is_digit(s[3])
-                    & (is_digit(s[4]) & (is_digit(s[5]) & (is_digit(s[6]) & is_digit(s[7])))))))
+    let mut kept = true;
+    for b in s {
+        kept &= belongs_to(Class::Digit, *b);
+    }
+    kept
 }
 
 // The parts of a day in eight digits, whether or not there is such a day.
@@ -120,8 +113,12 @@ impl Day {
     }
 }
 
+// Year, month and day, without zeros in front.
 impl fmt::Display for Day {
+    ghost output = { λ d. Some (decimal d.year ++ (codes "-" ++ (decimal d.month ++ (codes "-" ++ decimal d.day)))) };
+
     fn fmt<W: fmt::Write>(&self, f: &mut fmt::Formatter<W>) -> fmt::Result {
-        write!(f, "{}-{}-{}", self.year, self.month, self.day)
+        let Day { year, month, day } = *self;
+        write!(f, "{year}-{month}-{day}")
     }
 }

@@ -6,9 +6,10 @@ use crate::day::Day;
 use signs::{Class, all_of};
 
 // A day, eight zeros or eight blanks (RULES 1.5); which of the three it was is kept.
-#[derive(Clone, Copy, PartialEq, Eq, Debug)]
+#[derive(Clone, Copy, PartialEq, Eq, Debug, Default)]
 pub enum Expected {
     On(Day),
+    #[default]
     Zeros,
     Blanks,
 }

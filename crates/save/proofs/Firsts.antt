@@ -1,10 +1,11 @@
 -- The key of an entry against the keys of earlier entries.
-use mathlib.Core.Bool.{Bool, not}
+use mathlib.Core.Path.{◌≡◌, refl}
 use mathlib.Core.List.{List}
 use Prim.Native.Nat.{ℕ}
 use lib.ListN.{take}
-use Rattle.cells.specs.Bytes.{same}
+use Rattle.save.specs.Entries.{is_new, is_first}
 
--- the entry at e has another key than the entry at i
-abbrev pub differs : ℕ → (ℕ → List ℕ) → ℕ → ℕ → Bool
-differs width body i e = not (same (take width (body e)) (take width (body i)))
+-- no earlier entry has the key of the entry at i: that key is new there
+pub first_new : (width : ℕ) (body : ℕ → List ℕ) (i : ℕ) → is_first width body i ≡ is_new width body (take width (body i)) i
+unfolding is_first is_new
+first_new width body i = refl

@@ -16,7 +16,7 @@ use Rattle.cells.proofs.Numbers.{le_back}
 use Rattle.cells.proofs.Stores.{le_ext}
 use Rattle.cells.proofs.Within.{number_within}
 use Rattle.entry.specs.Report.{no_mark, least_mark, most_mark, blank_date, report_sound}
-use Rattle.entry.specs.Stored.{ordered_at, mark_at, message_at, expected_at}
+use Rattle.entry.specs.Stored.{key_width, ordered_at, mark_at, message_at, expected_at}
 use Rattle.save.specs.Form.{front_width, line_body_width, unsaved_width, unsaved_message, unsaved, front_of}
 use Rattle.save.specs.Entries.{report_kept, parties_agree}
 use Rattle.save.specs.Moves.{is_numbered}
@@ -126,7 +126,10 @@ module _ (form : Form) (body : List ℕ) (wide : length body ≡ line_body_width
       go Old w = unfold front_of line_body_width in take_at body (unsaved (get_or body mark_at 0)) message_at w ∙ sym (take_all message_at body (omega arith))
       go New w = unfold front_of in refl
 
-  -- so they have one key and article, one Q, and parties that agree with the same slips
+  -- so they have one key, one article, one Q, and parties that agree with the same slips
+  pub front_key : take key_width (front_of form body) ≡ take key_width body
+  front_key = take_same (front_of form body) body message_at front_kept key_width (omega arith)
+
   pub front_named : take ordered_at (front_of form body) ≡ take ordered_at body
   front_named = take_same (front_of form body) body message_at front_kept ordered_at (omega arith)
 

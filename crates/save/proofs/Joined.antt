@@ -39,6 +39,17 @@ module _ (f : ℕ → List ℕ) (n i : ℕ) (d : List ℕ) (at : ℕ) where
       let e : n - i ≡ 0 = omega arith in
       rw e refl
 
+-- the same for using: each step is an equation whose left side shows all
+pub joined_step : (f : ℕ → List ℕ) (n i : ℕ) (d : List ℕ) (w : ℕ) → i < n → length (f i) ≡ w → sets d (w * i) (joined_from f (n - i) i) ≡ sets (sets d (w * i) (f i)) (w * (i + 1)) (joined_from f (n - (i + 1)) (i + 1))
+joined_step f n i d w h l =
+    let p : w * i + w ≡ w * (i + 1) = rw (add-one i) (omega (arith, mul-suc w i)) in
+    rw (← p) (joined_next f n i d (w * i) w h l)
+
+pub joined_behind : (f : ℕ → List ℕ) (n i : ℕ) (d : List ℕ) (start w : ℕ) → i < n → length (f i) ≡ w → sets d (start + w * i) (joined_from f (n - i) i) ≡ sets (sets d (start + w * i) (f i)) (start + w * (i + 1)) (joined_from f (n - (i + 1)) (i + 1))
+joined_behind f n i d start w h l =
+    let p : start + w * i + w ≡ start + w * (i + 1) = rw (add-one i) (omega (arith, mul-suc w i)) in
+    rw (← p) (joined_next f n i d (start + w * i) w h l)
+
 -- the entry of a line by its front, in either form
 pub line_entry_long : (form : Form) (front : List ℕ) → length front ≡ front_width → length (line_kind form ∷ take (line_body_width form) front) ≡ saved_line_width form
 line_entry_long form front e =

@@ -5,3 +5,4 @@ pub mod Fronts
 pub mod Joined
 pub mod Keys
 pub mod Views
+pub mod Walked

@@ -70,6 +70,10 @@ slip_kept n line body =
     && (within 1 most_copies (slip_copies body)
     && (ltb (line_index body) n && parties_agree body (line (line_index body))))
 
+-- none of the first n entries has a key
+unfoldable pub is_new : ℕ → (ℕ → List ℕ) → List ℕ → ℕ → Bool
+is_new width body key n = all_from (λ e. not (same (take width (body e)) key)) n 0
+
 -- no earlier entry has the key of the entry at i; a key is so many bytes at the front of a body
 unfoldable pub is_first : ℕ → (ℕ → List ℕ) → ℕ → Bool
 is_first width body i = all_from (λ e. not (same (take width (body e)) (take width (body i)))) i 0

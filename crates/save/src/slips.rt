@@ -1,6 +1,6 @@
 // The slips of a save.
 ghost use Rattle.std.specs.Prelude.{◌≡◌, ◌+◌, ◌*◌, ◌<◌, ◌≤◌, length};
-ghost use Rattle.save.specs.Saved.{saved_slip_width, slip_in};
+ghost use Rattle.save.specs.Saved.{slip_body_width, saved_slip_width, slip_in};
 
 use crate::form::KIND_BYTE;
 use stored::SLIP_WIDTH;
@@ -22,7 +22,8 @@ impl<'a> Slips<'a> {
     #[tactic(auto, unfolding(crate::specs::Saved::slip_in), using(cells::proofs::Parts::part_is))]
     pub fn body(self, j: usize) -> &'a [u8]
         requires { j < self.count }
-        ensures { result.now ≡ slip_in self.entry.bytes.now self.entry.at j }
+        ensures body { result.now ≡ slip_in self.entry.bytes.now self.entry.at j }
+        ensures wide { length result.now ≡ slip_body_width }
     {
         let from = self.at + SAVED_SLIP_WIDTH * j + KIND_BYTE;
         let end = from + SLIP_WIDTH;

@@ -1,84 +1,97 @@
 // The public calls of saving and loading.
 #![tactic(auto)]
 
-ghost use Rattle.std.specs.Prelude.{◌≡◌, ◌+◌, ◌*◌, ◌≤◌, ◌<◌, length};
+ghost use Rattle.std.specs.Prelude.{◌≡◌, ◌*◌, ◌≤◌, length};
 ghost use Rattle.book.specs.Lent.{lent};
+ghost use Rattle.finding.specs.Seen.{seen};
 ghost use Rattle.entry.specs.Stored.{line_width, slip_width};
-ghost use Rattle.save.specs.Form.{slips_at};
-ghost use Rattle.save.specs.Saved.{saved_slip_width, written, save};
-ghost use Rattle.save.specs.Load.{lent_loaded, outcome, load};
+ghost use Rattle.save.specs.Saved.{written, saved_of, save};
+ghost use Rattle.save.specs.Load.{lent_loaded, outcome, loaded_of, load};
 
-use cells::little::get;
 use filling::input::{take_lines, take_slips};
 use filling::output::{put_end, put_lines, put_slips};
-use finding::seek::{MOST_LINES, MOST_SLIPS, is_room, is_sound};
-use kept::SAVED_SLIP_WIDTH;
-use save::answer::{Loaded, Refused, Saved, not_loaded, not_saved, saved_as};
-use save::form::{Form, slips_at};
-use saved::{END_WIDTH, LINES_BACK, SLIPS_BACK, form_in, is_save_of};
+use filling::used::UsedLines;
+use finding::lent::LentBook;
+use finding::seek::{MOST_LINES, MOST_SLIPS, is_room};
+use finding::sound::SoundBook;
+use save::answer::{Loaded, Refused, Saved};
+use save::form::Form;
+use save::slips::SAVED_SLIP_WIDTH;
+use save::valid::ValidSave;
+use saved::{END_WIDTH, form_in, valid_save};
 use stored::{LINE_WIDTH, SLIP_WIDTH};
+
+// A sound book, saved at the front of the output, and how long its save is.
+#[tactic(auto, unfolding(save::specs::Saved::save, save::specs::Saved::saved_width, save::specs::Saved::saved_of), using(crate::proofs::Stages::storing))]
+fn saved_into(lent: LentBook, out: &mut [u8]) -> Result<usize, Refused>
+    ensures { written (saved_of result) out.new ≡ save (seen lent.entry) out.old }
+{
+    let book = SoundBook::of(lent).ok_or(Refused::Unsound)?;
+    let n = book.lent.used_lines();
+    let m = book.lent.used_slips();
+    let at = Form::New.slips_at(n);
+    let end_at = at + SAVED_SLIP_WIDTH * m;
+    let length = end_at + END_WIDTH;
+    if out.len() < length {
+        return Err(Refused::TooSmall);
+    }
+    let lines = UsedLines {
+        bytes: book.lent.lines,
+        count: n,
+    };
+    put_lines(out, lines);
+    put_slips(out, at, book.lent.slips, m);
+    put_end(out, end_at, n, m);
+    Ok(length)
+}
 
 // Saves a lent book at the front of the output, in the new form: 20, 23. A refusal changes nothing.
 pub fn save(lines: &[u8], slips: &[u8], used: &[usize; 2], out: &mut [u8]) -> Saved
     ensures { written result out.new ≡ save (lent lines.now slips.now used.now) out.old }
 {
-    if !is_sound(lines, slips, used) {
-        return not_saved(Refused::Unsound);
-    }
-    let n = used[0];
-    let m = used[1];
-    let at = slips_at(Form::New, n);
-    let end_at = at + SAVED_SLIP_WIDTH * m;
-    let length = end_at + END_WIDTH;
-    if out.len() < length {
-        return not_saved(Refused::TooSmall);
-    }
-    put_lines(out, lines, n);
-    put_slips(out, at, slips, m);
-    put_end(out, end_at, n, m);
-    saved_as(length)
+    saved_into(LentBook { lines, slips, used }, out).into()
 }
 
-// The book that a save of n lines and m slips tells, put into rooms that are large enough.
-fn fill(
+// The book that a save tells, put into rooms that are large enough.
+#[tactic(auto, unfolding(save::specs::Load::lent_loaded))]
+fn fill(save: ValidSave, lines: &mut [u8], slips: &mut [u8], used: &mut [usize; 2])
+    requires { (line_width * save.line_count ≤ length lines.old) × (slip_width * save.slip_count ≤ length slips.old) }
+    ensures { lent lines.new slips.new used.new ≡ lent_loaded save.entry.form save.entry.bytes.now save.entry.line_count save.entry.slip_count (lent lines.old slips.old used.old) }
+{
+    take_lines(save, lines);
+    take_slips(save.slips(), slips);
+    used[0] = save.line_count;
+    used[1] = save.slip_count;
+}
+
+// A save of either form, loaded into a lent book of any contents.
+#[tactic(auto, unfolding(save::specs::Load::load, save::specs::Load::loaded_of, book::specs::Lent::rooms_sound, book::specs::Lent::line_room, book::specs::Lent::slip_room), using(crate::proofs::Stages::loading))]
+fn loaded_into(
     saved: &[u8],
-    form: Form,
-    n: usize,
-    m: usize,
     lines: &mut [u8],
     slips: &mut [u8],
     used: &mut [usize; 2],
-)
-    requires { (slips_at form n + saved_slip_width * m ≤ length saved.now) × (n < 65536) × (m < 65536) × (line_width * n ≤ length lines.old) × (slip_width * m ≤ length slips.old) }
-    ensures { lent lines.new slips.new used.new ≡ lent_loaded form saved.now n m (lent lines.old slips.old used.old) }
+) -> Result<(), Refused>
+    ensures { outcome (loaded_of result) (lent lines.new slips.new used.new) ≡ load saved.now (lent lines.old slips.old used.old) }
 {
-    take_lines(saved, form, n, m, lines);
-    take_slips(saved, slips_at(form, n), m, slips);
-    used[0] = n;
-    used[1] = m;
+    if !(is_room(LINE_WIDTH, MOST_LINES, lines.len())
+        & is_room(SLIP_WIDTH, MOST_SLIPS, slips.len()))
+    {
+        return Err(Refused::Unsound);
+    }
+    let save = valid_save(saved, form_in(saved)).ok_or(Refused::NoSave)?;
+    if !((save.line_count <= lines.len() / LINE_WIDTH)
+        & (save.slip_count <= slips.len() / SLIP_WIDTH))
+    {
+        return Err(Refused::TooSmall);
+    }
+    fill(save, lines, slips, used);
+    Ok(())
 }
 
 // Loads a save of either form into a lent book of any contents: 20 for room sizes alone, 22, 23. A refusal changes nothing.
 pub fn load(saved: &[u8], lines: &mut [u8], slips: &mut [u8], used: &mut [usize; 2]) -> Loaded
     ensures { outcome result (lent lines.new slips.new used.new) ≡ load saved.now (lent lines.old slips.old used.old) }
 {
-    if !(is_room(LINE_WIDTH, MOST_LINES, lines.len())
-        & is_room(SLIP_WIDTH, MOST_SLIPS, slips.len()))
-    {
-        return not_loaded(Refused::Unsound);
-    }
-    let form = form_in(saved);
-    if !is_save_of(saved, form) {
-        return not_loaded(Refused::NoSave);
-    }
-    let n = get::<2>(saved, saved.len() - LINES_BACK) as usize;
-    let m = get::<2>(saved, saved.len() - SLIPS_BACK) as usize;
-    if (lines.len() / LINE_WIDTH < n) | (slips.len() / SLIP_WIDTH < m) {
-        return not_loaded(Refused::TooSmall);
-    }
-    fill(saved, form, n, m, lines, slips, used);
-    Loaded {
-        answer: 0,
-        place: 0,
-    }
+    loaded_into(saved, lines, slips, used).into()
 }

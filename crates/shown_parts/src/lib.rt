@@ -2,7 +2,7 @@
 #![tactic(auto)]
 
 use cells::part;
-use lent_parts::lent::lent_part;
+use lent_parts::entries::LentParts;
 use packing::write_parts;
 use parts::entry::PART_WIDTH;
 use parts::loops::{LOOP_FIELDS, MOST_PARTS};
@@ -13,8 +13,8 @@ use std::io::Write;
 use unpacking::{FULL_TABLE, read_parts};
 use writing::answer::Written;
 
-// The bytes of eight parts.
-const FULL_ROOM: usize = 544;
+// Room for the parts of every record.
+const FULL_ROOM: usize = MOST_PARTS * PART_WIDTH;
 
 // A record and the table that a check filled with its optional fields: how many, and three numbers each.
 #[derive(Clone, Copy, PartialEq, Eq, Debug)]
@@ -71,36 +71,34 @@ pub fn show_written<W: Write>(
     writeln!(out, "  {what} {how}")
 }
 
-// The record written back from the fields before its n parts, and from these.
-fn write_back<W: Write>(
-    out: &mut W,
-    listed: Listed,
-    room: &[u8; FULL_ROOM],
-    n: usize,
-) -> io::Result<()> {
+// The record written back from the fields before its parts, and from these.
+fn write_back<W: Write>(out: &mut W, listed: Listed, parts: LentParts) -> io::Result<()> {
     let Listed {
         record,
         table,
         fields,
     } = listed;
-    let Some(others) = fields.checked_sub(n * LOOP_FIELDS) else {
+    let LentParts { room, count } = parts;
+    let Some(others) = fields.checked_sub(count * LOOP_FIELDS) else {
         return Ok(());
     };
     let mut copy = [0; MOST_BYTES];
     let fixed = part(record, 0, DELIVERY_WIDTH);
-    let written = write_parts(fixed, table, others, record, room, n, &mut copy);
+    let written = write_parts(fixed, table, others, record, room, count, &mut copy);
     show_written(out, "parts", written, &copy, record)
 }
 
 // The parts of a record; nothing of one that has none.
 pub fn show_parts<W: Write>(out: &mut W, listed: Listed) -> io::Result<()> {
+    let record = listed.record;
     let mut room = [0; FULL_ROOM];
-    let n = read_parts(listed.record, &mut room).parts.min(MOST_PARTS);
-    for i in 0..n {
-        show_part(out, &lent_part(&room, i * PART_WIDTH))?;
-    }
-    if n == 0 {
+    let count = read_parts(record, &mut room).parts.min(MOST_PARTS);
+    if count == 0 {
         return Ok(());
     }
-    write_back(out, listed, &room, n)
+    let parts = LentParts { room: &room, count };
+    for i in 0..count {
+        show_part(out, &parts.nth(i).part())?;
+    }
+    write_back(out, listed, parts)
 }

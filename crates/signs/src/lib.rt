@@ -99,7 +99,10 @@ pub fn belongs_to(c: Class, b: u8) -> bool
         Class::Account => between(ZERO, NINE, b) | between(LETTER_A, LETTER_Z, b),
         Class::Blank => b == BLANK,
         Class::Zero => b == ZERO,
-        Class::Unbarred => !matches!(b, STAR | PLUS | COLON | QUESTION | APOSTROPHE),
+        // As `matches!` it takes three instructions more a byte.
+        Class::Unbarred => {
+            !((b == STAR) | ((b == PLUS) | ((b == COLON) | ((b == QUESTION) | (b == APOSTROPHE)))))
+        }
         Class::DigitOrX => between(ZERO, NINE, b) | (b == LETTER_X),
     }
 }

@@ -1,4 +1,4 @@
-// Lines and slips written into lent bytes.
+// Lines and slips written into lent bytes. They take the bytes and an index: methods of a value that holds a `&mut` would promise three things, bytes, index and length, in place of one equation, and each caller would have to make that value first.
 ghost use Rattle.std.specs.Prelude.{◌≡◌, ◌++◌, ◌+◌, ◌*◌, ◌≤◌, length};
 ghost use Rattle.entry.specs.Stored.{line_width, ordered_at, slip_width, slip_key_width, put_arrived, put_report, add_line, add_slip};
 

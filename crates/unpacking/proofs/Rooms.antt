@@ -1,20 +1,18 @@
 -- The entries of parts in a room, one after the other.
-use mathlib.Core.Path.{◌≡◌, ◌∙◌, ap, refl}
+use mathlib.Core.Path.{◌≡◌, ◌∙◌, refl}
 use mathlib.Core.List.{List, ◌∷◌, ◌++◌}
 use Prim.Native.Nat.{ℕ, zero, suc, ◌+◌, ◌-◌, ◌*◌, ◌≤◌, ◌<◌}
 use native.Mathlib.Nat.{zero-add}
 use native.Mathlib.Omega.{arith}
 use lib.ListN.{length, take, drop, length-append}
-use lib.Seq.{sets, sets-eq}
+use lib.Seq.{sets, sets-eq, drop-drop}
 use Rattle.cells.specs.Bytes.{joined}
 use Rattle.cells.specs.Little.{le_bytes}
 use Rattle.cells.proofs.Stores.{sets_append}
 use Rattle.record.specs.Fields.{Optional}
-use Rattle.writing.specs.Write.{entries, optional_of}
 use Rattle.parts.specs.Loops.{loop_fields}
 use Rattle.parts.specs.Part.{part_width, price_from, article_from, part_of, parts_of, price_bytes, part_bytes, room_of}
 use Rattle.parts.proofs.Fits.{fitted_length}
-use Rattle.parts.proofs.Series.{left, fields_left, this_loop, next_loops}
 
 -- the entry of a part that fields say is as long as an entry
 part_length : (fs : List Optional) → length (part_bytes (part_of fs)) ≡ part_width
@@ -36,30 +34,24 @@ rooms_stored n fs room h =
     sets-eq (room_of (parts_of n fs)) room 0 (rw rooms_length (omega arith)) ∙ rw (zero-add, rooms_length n fs)
 
 -- the part of the loop with an index stored leaves the others to store
-module _ (contents table : List ℕ) (n j first : ℕ) (h : j < n) where
-  parts_here : parts_of (n - j) (fields_left contents n j first table)
-      ≡ part_of (optional_of contents (entries loop_fields (left n j first table))) ∷ parts_of (n - (j + 1)) (fields_left contents n (j + 1) first table)
-  unfolding parts_of
-  parts_here =
-      let k : n - j ≡ suc (n - (j + 1)) = omega arith in
-      ap (λ (m : ℕ). parts_of m (fields_left contents n j first table)) k
-      ∙ rw (this_loop contents table n j first h, next_loops contents table n j first h)
-
-  pub rooms_next : (room : List ℕ)
-      → sets room (j * part_width) (room_of (parts_of (n - j) (fields_left contents n j first table)))
-      ≡ sets (sets room (j * part_width) (part_bytes (part_of (optional_of contents (entries loop_fields (left n j first table)))))) ((j + 1) * part_width)
-      (room_of (parts_of (n - (j + 1)) (fields_left contents n (j + 1) first table)))
-  unfolding room_of
-  rooms_next room =
-      let p = part_bytes (part_of (optional_of contents (entries loop_fields (left n j first table)))) in
+module _ (n j : ℕ) (fs : List Optional) (room : List ℕ) where
+  pub rooms_next : j < n → sets room (j * part_width) (room_of (parts_of (n - j) (drop (j * loop_fields) fs)))
+      ≡ sets (sets room (j * part_width) (part_bytes (part_of (take loop_fields (drop (j * loop_fields) fs))))) ((j + 1) * part_width)
+      (room_of (parts_of (n - (j + 1)) (drop ((j + 1) * loop_fields) fs)))
+  unfolding room_of parts_of
+  rooms_next h =
+      let p = part_bytes (part_of (take loop_fields (drop (j * loop_fields) fs))) in
+      let left : n - j ≡ suc (n - (j + 1)) = omega arith in
       let k : j * part_width + part_width ≡ (j + 1) * part_width = omega arith in
-      rw parts_here
-      (sets_append room (j * part_width) p (room_of (parts_of (n - (j + 1)) (fields_left contents n (j + 1) first table)))
-      ∙ rw (part_length, k))
+      let l : j * loop_fields + loop_fields ≡ (j + 1) * loop_fields = omega arith in
+      rw (left, drop-drop loop_fields (j * loop_fields) fs, l)
+      (sets_append room (j * part_width) p (room_of (parts_of (n - (j + 1)) (drop ((j + 1) * loop_fields) fs))) ∙ rw (part_length, k))
 
--- with no loop left nothing is stored
-pub rooms_end : (n j : ℕ) (fs : List Optional) (room : List ℕ) → n ≤ j → sets room (j * part_width) (room_of (parts_of (n - j) fs)) ≡ room
-unfolding room_of parts_of
-rooms_end n j fs room h =
-    let e : n - j ≡ 0 = omega arith in
-    rw e
+  -- with no loop left nothing is stored
+  pub rooms_end : n ≤ j → sets room (j * part_width) (room_of (parts_of (n - j) (drop (j * loop_fields) fs))) ≡ room
+  unfolding room_of parts_of
+  rooms_end h =
+      let e : n - j ≡ 0 = omega arith in
+      rw e
+
+pub ruleset rooms_filled = (rooms_stored, rooms_next, rooms_end)

@@ -4,33 +4,32 @@
 pub mod entry;
 pub mod fields;
 
-ghost use Rattle.std.specs.Prelude.{◌≡◌, true, ◌++◌, ◌+◌, ◌*◌, ◌≤◌, length, drop};
-ghost use Rattle.record.specs.Layout.{most_fields};
-ghost use Rattle.record.specs.Read.{entry_width};
-ghost use Rattle.writing.specs.Widths.{all_inside};
-ghost use Rattle.writing.specs.Write.{entries, optional_of};
-ghost use Rattle.parts.specs.Loops.{loop_fields, loops_of};
+ghost use Rattle.std.specs.Prelude.{◌≡◌, ◌++◌, ◌*◌, ◌≤◌, length, drop, Ok, Err, MatchResult};
+ghost use Rattle.parts.specs.Loops.{loops_of, most_parts};
+ghost use Rattle.parts.specs.Named.{fields_of};
 ghost use Rattle.parts.specs.Part.{part_width, parts_of, room_of};
-ghost use Rattle.parts.specs.Read.{loops_judged, outcome, read_parts};
+ghost use Rattle.parts.specs.Read.{loops_judged, room_after, outcome, read_parts};
 
 use crate::entry::put_part;
 use crate::fields::part_of;
-use parts::answer::{PartsRead, Refusal, Verdict, read_of};
+use parts::answer::{PartsRead, Refusal, Verdict};
 use parts::entry::PART_WIDTH;
-use parts::loops::{LOOP_FIELDS, MOST_PARTS, are_loops, is_bundle, others_among};
+use parts::loops::{LOOP_FIELDS, MOST_PARTS, is_bundle, others_among};
+use parts::table::Loops;
 use reader::check;
 use record::fields::{ENTRY_WIDTH, LAST_ID};
+use record::layout::MOST_FIELDS;
+use writing::lent::InsideFields;
 
 // The numbers of a table with room for every record.
-pub const FULL_TABLE: usize = 288;
+pub const FULL_TABLE: usize = MOST_FIELDS * ENTRY_WIDTH;
 
-// 26, then 27, of the fields from the first that a loop may begin with on.
-fn judge_loops(contents: &[u8], table: &[usize], count: usize) -> Verdict
-    requires { (count ≤ most_fields) × (count * entry_width ≤ length table.now) × (all_inside contents.now (entries count table.now) ≡ true) }
-    ensures { result ≡ loops_judged (loops_of (optional_of contents.now (entries count table.now))) }
+// 26, then 27: the loops that fields are from the first on that a loop may begin with.
+fn judge_loops<'a>(fields: InsideFields<'a>) -> Result<Loops<'a>, Refusal>
+    ensures { MatchResult result (λ l. (loops_judged (loops_of (fields_of fields.entry)) ≡ Ok l.count) × (fields_of l.fields ≡ loops_of (fields_of fields.entry))) (λ r. loops_judged (loops_of (fields_of fields.entry)) ≡ Err r) }
 {
-    let first = others_among(table, count);
-    let left = count - first;
+    let first = others_among(fields.table, fields.count);
+    let left = fields.count - first;
     if left == 0 {
         return Err(Refusal::Broken);
     }
@@ -38,27 +37,39 @@ fn judge_loops(contents: &[u8], table: &[usize], count: usize) -> Verdict
         return Err(Refusal::Broken);
     }
     let n = left / LOOP_FIELDS;
-    if !are_loops(contents, table, first, n) {
+    let loops = Loops {
+        fields: fields.skip(first),
+        count: n,
+    };
+    if !loops.are_loops() {
         return Err(Refusal::Broken);
     }
     if MOST_PARTS < n {
         return Err(Refusal::TooMany);
     }
-    Ok(n)
+    Ok(loops)
 }
 
-// The parts of n loops from an index on, into the room.
-fn fill(contents: &[u8], table: &[usize], first: usize, n: usize, room: &mut [u8])
-    requires { (first + n * loop_fields ≤ most_fields) × ((first + n * loop_fields) * entry_width ≤ length table.now) × (all_inside contents.now (entries (n * loop_fields) (drop (first * entry_width) table.now)) ≡ true) × (n * part_width ≤ length room.old) }
-    ensures { room.new ≡ room_of (parts_of n (optional_of contents.now (entries (n * loop_fields) (drop (first * entry_width) table.now)))) ++ drop (n * part_width) room.old }
+// The parts of loops, into the room.
+#[tactic(auto, using(crate::proofs::Rooms::rooms_filled))]
+fn fill(loops: Loops, room: &mut [u8])
+    requires { loops.count * part_width ≤ length room.old }
+    ensures { room.new ≡ room_of (parts_of loops.entry.count (fields_of loops.entry.fields)) ++ drop (loops.entry.count * part_width) room.old }
 {
-    let mut j: usize = 0;
-    while j < n {
-        let from = (first + j * LOOP_FIELDS) * ENTRY_WIDTH;
-        let p = part_of(contents, &table[from..]);
+    for j in 0..loops.count {
+        let p = part_of(loops.nth(j));
         put_part(room, j * PART_WIDTH, p);
-        j += 1;
     }
+}
+
+// The number of parts of a bundle with these fields, which stand in the room; a refusal leaves the room as it was.
+fn take_parts(fields: InsideFields, room: &mut [u8]) -> Verdict
+    requires { most_parts * part_width ≤ length room.old }
+    ensures { (result ≡ loops_judged (loops_of (fields_of fields.entry))) × (room.new ≡ room_after result (fields_of fields.entry) room.old) }
+{
+    let loops = judge_loops(fields)?;
+    fill(loops, room);
+    Ok(loops.count)
 }
 
 // The answer, its place and the number of parts, which stand in the room; a refusal leaves the room as it was.
@@ -66,9 +77,8 @@ pub fn read_parts(s: &[u8], room: &mut [u8]) -> PartsRead
     ensures { outcome result room.new ≡ read_parts s.now room.old }
 {
     if room.len() < MOST_PARTS * PART_WIDTH {
-        return read_of(Err(Refusal::SmallRoom));
+        return PartsRead::from(Err(Refusal::SmallRoom));
     }
-    // Entries that name no field; zeros would be a call of memset.
     let mut table = [LAST_ID; FULL_TABLE];
     let checked = check(s, &mut table);
     if checked.answer != 0 {
@@ -79,14 +89,12 @@ pub fn read_parts(s: &[u8], room: &mut [u8]) -> PartsRead
         };
     }
     if !is_bundle(s) {
-        return read_of(Ok(0));
+        return PartsRead::from(Ok(0));
     }
-    let count = checked.fields;
-    match judge_loops(s, &table, count) {
-        Err(r) => read_of(Err(r)),
-        Ok(n) => {
-            fill(s, &table, count - n * LOOP_FIELDS, n, room);
-            read_of(Ok(n))
-        }
-    }
+    let fields = InsideFields {
+        table: &table,
+        count: checked.fields,
+        contents: s,
+    };
+    take_parts(fields, room).into()
 }

@@ -6,7 +6,7 @@ use Prim.Native.Nat.{ℕ, ◌+◌, ◌-◌, ◌≤◌, ◌<◌}
 use native.Mathlib.Omega.{arith}
 use borrow.Author.Tests.{eq-eqb, ne_eqb}
 use lib.ListN.{length, drop, get_or, length-drop}
-use lib.Seq.{slice, drop-drop}
+use lib.Seq.{slice, drop-drop, take_all}
 use Rattle.cells.specs.Bytes.{run, any}
 use Rattle.cells.proofs.Bools.{split, and_left, and_right, and_false}
 use Rattle.cells.proofs.Parts.{next, take_from, nothing}
@@ -48,6 +48,22 @@ module _ (s : List ℕ) (p : ℕ) where
   pub width_is : run not_star (drop p s) ≡ end_of s p - p
   unfolding end_of
   width_is = omega arith
+
+-- how long a content is, a byte at a time
+pub width_star : (s : List ℕ) (i : ℕ) → i < length s → get_or s i 0 ≡ 42 → i + run not_star (drop i s) ≡ i
+width_star s i h e = run_off not_star s i h (rw (eq-eqb (get_or s i 0) 42 e))
+
+pub width_more : (s : List ℕ) (i : ℕ) → i < length s → (get_or s i 0 ≡ 42 → ⊥) → i + run not_star (drop i s) ≡ i + 1 + run not_star (drop (i + 1) s)
+width_more s i h e = run_on not_star s i h (rw (ne_eqb (get_or s i 0) 42 e))
+
+pub width_end : (s : List ℕ) (i : ℕ) → length s ≤ i → i + run not_star (drop i s) ≡ i
+width_end s i h = run_end not_star s i h
+
+-- what is left from a place on
+pub rest_is : (s : List ℕ) (p : ℕ) → slice p (length s) s ≡ drop p s
+rest_is s p = ap (drop p) (take_all (length s) s (omega arith))
+
+pub ruleset width_on = (width_star, width_more, width_end, rest_is)
 
 -- the field at a place, by where its content ends
 module _ (s : List ℕ) (at : ℕ) where

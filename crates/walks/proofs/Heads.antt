@@ -5,14 +5,16 @@ use mathlib.Core.List.{List}
 use Prim.Native.Nat.{ℕ, ◌+◌, ◌-◌, ◌≤◌, ◌<◌}
 use native.Mathlib.Nat.{add-zero}
 use native.Mathlib.Omega.{arith}
-use borrow.Author.Tests.{eq-eqb, ne_eqb, lt-leb}
+use borrow.Author.Tests.{eq-eqb, ne_eqb, lt-leb, ltb-true, ltb-false}
+use lib.Dec.{ltb}
 use lib.ListN.{length, drop, get_or, length-drop, length-take}
 use lib.Seq.{slice, get_or-drop}
-use Rattle.cells.proofs.Bools.{and_false}
+use Rattle.cells.proofs.Bools.{split, and_false}
 use Rattle.cells.proofs.Parts.{slice_drop}
 use Rattle.signs.specs.Class.{all_of, of_class}
 use Rattle.rules.specs.Number.{number}
 use Rattle.signs.specs.declared.Class.TheVariants.{Digit}
+use Rattle.rules.proofs.Parts.{part_most}
 use Rattle.record.specs.Fields.{head_of, id_in, id_of}
 use Rattle.std.specs.Prelude.{None, Some}
 
@@ -67,7 +69,14 @@ pub id_of_law : (t : List ℕ) (id : ℕ) → head_of t ≡ Some id → id_of t 
 unfolding id_of id_in
 id_of_law t id e = rw e
 
--- 0 where none does
-pub no_id : (t : List ℕ) → head_of t ≡ None → id_of t ≡ 0
-unfolding id_of id_in
-no_id t e = rw e
+-- a field that stands there has room
+pub head_wide : (s : List ℕ) (at id : ℕ) → head_of (drop at s) ≡ Some id → at + 5 ≤ length s
+head_wide s at id e =
+    split (ltb (length s - at) 5)
+    (λ t.
+    let none = head_short s at (ltb-true (length s - at) 5 t) in
+    let z : ◌≡◌ {A = ℕ} 0 1 = cc in absurd (omega arith))
+    (λ t. omega (arith, ltb-false (length s - at) 5 t))
+
+-- what stands at a place
+pub ruleset heads = (head_short, head_other, head_letters, head_id, part_most)

@@ -5,7 +5,7 @@ use mathlib.Core.List.{List}
 use mathlib.Core.Logic.{◌⊎◌, inl, inr, ⊎_elim}
 use Prim.Native.Nat.{ℕ, zero, suc, ◌+◌, ◌-◌, ◌≤◌, ◌<◌}
 use native.Mathlib.Omega.{arith}
-use borrow.Author.Tests.{eq-eqb, ne_eqb}
+use borrow.Author.Tests.{ne_eqb}
 use lib.Dec.{eqb}
 use lib.ListN.{length, drop, length-drop}
 use Rattle.cells.specs.Bytes.{pick}
@@ -14,10 +14,11 @@ use Rattle.record.specs.Fields.{head_of, field_width, after_field, on_head, at_f
 use Rattle.record.specs.declared.answer.Refusal.TheVariants.{NoField, LastField, TooManyFields}
 use Rattle.record.specs.Verdicts.{Verdict}
 use Rattle.std.specs.Prelude.{Err, None, Ok, Option, Some}
-use Rattle.walks.proofs.Contents.{end_of, field_end, field_after}
+use Rattle.std.proofs.lemmas.Bool.Decides.{nat_tests}
+use Rattle.walks.proofs.Contents.{end_of, end_on, end_star, end_none, field_end, field_after}
 
 -- what the fields from this one on say, where it is not the last
-unfoldable more : ℕ → ℕ → ℕ → List ℕ → Verdict
+unfoldable pub more : ℕ → ℕ → ℕ → List ℕ → Verdict
 more zero n p t = Err (TooManyFields p)
 more (suc room) n p t = walk room (n + 1) (p + field_width t) (after_field t)
 
@@ -27,68 +28,52 @@ unfolding walk more
 at_first zero n p t = refl
 at_first (suc room) n p t = refl
 
-module _ (n p : ℕ) (t : List ℕ) (x : Verdict) where
-  -- nothing stands there
-  field_none : length t ≡ 0 → at_field n p t x ≡ Err (LastField p)
-  unfolding at_field
-  field_none h = rw (eq-eqb (length t) 0 h)
+-- what is said where a field should start, by what stands there
+pub at_none : (n p : ℕ) (t : List ℕ) (x : Verdict) → at_field n p t x ≡ pick (eqb (length t) 0) (Err (LastField p)) (on_head (head_of t) n p t x)
+unfolding at_field
+at_none n p t x = refl
 
-  -- something does: its head decides
-  field_head : (d : Option ℕ) → (length t ≡ 0 → ⊥) → head_of t ≡ d → at_field n p t x ≡ on_head d n p t x
-  unfolding at_field
-  field_head d h e = rw (ne_eqb (length t) 0 h, e)
+pub head_none : (n p : ℕ) (t : List ℕ) (x : Verdict) → on_head None n p t x ≡ Err (NoField p)
+unfolding on_head
+head_none n p t x = refl
+
+pub head_some : (id n p : ℕ) (t : List ℕ) (x : Verdict)
+    → on_head (Some id) n p t x ≡ pick (eqb id 9999) (pick (eqb (length t) 5) (Ok n) (Err (LastField p))) x
+unfolding on_head
+head_some id n p t x = refl
 
 -- the walk at a place of the record, with n fields passed
 module _ (s : List ℕ) (at n : ℕ) where
   -- nothing is left of the record
-  pub walk_end : (room : ℕ) → length s ≤ at → walk room n at (drop at s) ≡ Err (LastField at)
-  walk_end room h = at_first room n at (drop at s) ∙ field_none n at (drop at s) _ (rw (length-drop at s) (omega arith))
+  pub walk_end : length s ≤ at → walk (most_fields - n) n at (drop at s) ≡ Err (LastField at)
+  unfolding at_field
+  walk_end h =
+      let e : length (drop at s) ≡ 0 = length-drop at s ∙ omega arith in
+      at_first (most_fields - n) n at (drop at s) ∙ rw e
 
-  module _ (h : at < length s) where
-    -- something is left of the record: the head there decides
-    walk_head : (room : ℕ) (d : Option ℕ) → head_of (drop at s) ≡ d → walk room n at (drop at s) ≡ on_head d n at (drop at s) (more room n at (drop at s))
-    walk_head room d e =
-        at_first room n at (drop at s) ∙ field_head n at (drop at s) _ d (λ q. omega (arith, length-drop at s)) e
+  -- something is left of the record: the head there decides
+  pub walk_head : at < length s → walk (most_fields - n) n at (drop at s) ≡ on_head (head_of (drop at s)) n at (drop at s) (more (most_fields - n) n at (drop at s))
+  unfolding at_field
+  walk_head h =
+      at_first (most_fields - n) n at (drop at s) ∙ rw (ne_eqb (length (drop at s)) 0 (λ q. omega (arith, length-drop at s)))
 
-    -- no field stands there
-    pub walk_missing : (room : ℕ) → head_of (drop at s) ≡ None → walk room n at (drop at s) ≡ Err (NoField at)
-    unfolding on_head
-    walk_missing room e = walk_head room None e
+  -- as many fields as may stand were passed
+  pub more_full : most_fields ≤ n → more (most_fields - n) n at (drop at s) ≡ Err (TooManyFields at)
+  unfolding more
+  more_full h =
+      let z : most_fields - n ≡ 0 = omega arith in
+      rw z
 
-    module _ (id : ℕ) (e : head_of (drop at s) ≡ Some id) where
-      -- the last field stands there, and ends the record
-      pub walk_last : (room : ℕ) → id ≡ 9999 → at + 5 ≡ length s → walk room n at (drop at s) ≡ Ok n
-      unfolding on_head
-      walk_last room q l =
-          walk_head room (Some id) e
-          ∙ rw (eq-eqb id 9999 q, eq-eqb (length (drop at s)) 5 (length-drop at s ∙ omega arith))
+  -- one more may stand: it is passed
+  pub more_next : n < most_fields
+      → more (most_fields - n) n at (drop at s) ≡ walk (most_fields - (n + 1)) (n + 1) (end_of s (at + 5)) (drop (end_of s (at + 5)) s)
+  unfolding more
+  more_next l =
+      let z : most_fields - n ≡ suc (most_fields - (n + 1)) = omega arith in
+      rw z (rw (field_end s at, field_after s at))
 
-      -- the last field stands there, and more follows or some of it is missing
-      pub walk_early : (room : ℕ) → id ≡ 9999 → (at + 5 ≡ length s → ⊥) → walk room n at (drop at s) ≡ Err (LastField at)
-      unfolding on_head
-      walk_early room q l =
-          walk_head room (Some id) e
-          ∙ rw (eq-eqb id 9999 q, ne_eqb (length (drop at s)) 5 (λ z. l (omega (arith, length-drop at s))))
-
-      -- another field stands there
-      walk_other : (room : ℕ) → (id ≡ 9999 → ⊥) → walk room n at (drop at s) ≡ more room n at (drop at s)
-      unfolding on_head
-      walk_other room q = walk_head room (Some id) e ∙ rw (ne_eqb id 9999 q)
-
-      -- another field stands there, where as many as may stand were passed
-      pub walk_full : (id ≡ 9999 → ⊥) → n ≡ most_fields → walk (most_fields - n) n at (drop at s) ≡ Err (TooManyFields at)
-      unfolding more
-      walk_full q l =
-          let z : most_fields - n ≡ 0 = omega arith in
-          rw z (walk_other 0 q)
-
-      -- another field stands there, where one more may stand: it is passed
-      pub walk_next : (id ≡ 9999 → ⊥) → n < most_fields
-          → walk (most_fields - n) n at (drop at s) ≡ walk (most_fields - (n + 1)) (n + 1) (end_of s (at + 5)) (drop (end_of s (at + 5)) s)
-      unfolding more
-      walk_next q l =
-          let z : most_fields - n ≡ suc (most_fields - (n + 1)) = omega arith in
-          rw z (walk_other (suc (most_fields - (n + 1))) q ∙ rw (field_end s at, field_after s at))
+-- the walk, one field at a time
+pub ruleset walked = (walk_end, walk_head, head_none, head_some, more_full, more_next, length-drop, end_on, end_star, end_none, nat_tests)
 
 -- of two verdicts one fits
 pick_fits : (b : Bool) (x y : Verdict) {m : ℕ} → pick b x y ≡ Ok m → (x ≡ Ok m) ⊎ (y ≡ Ok m)

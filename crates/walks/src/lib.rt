@@ -10,13 +10,14 @@ ghost use Rattle.record.specs.Read.{entry_width};
 
 use cells::part;
 use record::answer::{Refusal, Verdict};
-use record::contents::{NO_MEMBER, group_kept, is_barred, is_guarded, rule_kept};
+use record::contents::{group_kept, is_barred, is_guarded, rule_kept};
 use record::fields::{ENTRY_WIDTH, HEAD_WIDTH, LAST_ID};
 use record::layout::{Kind, MOST_FIELDS};
 use rules::number::number_of;
 use signs::{Class, STAR, all_of};
 
 // What stands at a place where an optional field should start.
+#[tactic(auto, using(crate::proofs::Heads::heads))]
 pub fn head_at(s: &[u8], at: usize) -> Option<usize>
     ensures { result ≡ head_of (drop at s.now) }
 {
@@ -37,91 +38,76 @@ pub fn head_at(s: &[u8], at: usize) -> Option<usize>
 }
 
 // The ID of the field at a place, 0 where none stands.
+#[tactic(auto, unfolding(record::specs::Fields::id_of, record::specs::Fields::id_in))]
 pub fn id_at(s: &[u8], at: usize) -> usize
     ensures { result ≡ id_of (drop at s.now) }
 {
-    match head_at(s, at) {
-        Some(id) => id,
-        None => 0,
-    }
+    head_at(s, at).unwrap_or(0)
 }
 
-// The walk that gives 6 to 8 over the fields from a place on; left by label at the first fault.
+// The walk that gives 6 to 8 over the fields from a place on (RULES 4.2); a labelled loop, left by label at the first fault, as docs/DECISIONS.md has it.
+#[tactic(auto, using(crate::proofs::Walked::walked))]
 pub fn walk(s: &[u8], from: usize) -> Verdict
     ensures { result ≡ walk most_fields 0 from (drop from s.now) }
 {
     let mut at = from;
-    let mut n: usize = 0;
     let mut found = Ok(0);
-    'fields: loop {
+    'fields: for n in 0..MOST_FIELDS + 1 {
         if s.len() <= at {
             found = Err(Refusal::LastField(at));
             break 'fields;
         }
-        match head_at(s, at) {
-            None => {
-                found = Err(Refusal::NoField(at));
-                break 'fields;
-            }
-            Some(id) => {
-                if id == LAST_ID {
-                    if at + HEAD_WIDTH == s.len() {
-                        found = Ok(n);
-                    } else {
-                        found = Err(Refusal::LastField(at));
-                    }
-                    break 'fields;
-                }
-            }
+        let Some(id) = head_at(s, at) else {
+            found = Err(Refusal::NoField(at));
+            break 'fields;
+        };
+        if id == LAST_ID {
+            found = if at + HEAD_WIDTH == s.len() {
+                Ok(n)
+            } else {
+                Err(Refusal::LastField(at))
+            };
+            break 'fields;
         }
         if n == MOST_FIELDS {
             found = Err(Refusal::TooManyFields(at));
             break 'fields;
         }
-        let mut end = at + HEAD_WIDTH;
-        'content: loop {
-            if s.len() <= end {
-                found = Err(Refusal::LastField(end));
-                break 'fields;
-            }
+        'content: for end in at + HEAD_WIDTH..s.len() {
             if s[end] == STAR {
-                break 'content;
+                at = end;
+                continue 'fields;
             }
-            end += 1;
         }
-        at = end;
-        n += 1;
+        found = Err(Refusal::LastField(s.len()));
+        break 'fields;
     }
     found
 }
 
-// The walk that gives 9, then 10, at each of n fields from a place on; left by label at the first fault.
+// The walk that gives 9, then 10, at each of n fields from a place on; likewise a labelled loop.
+#[tactic(auto, using(crate::proofs::Judged::judged_on))]
 pub fn judge(k: Kind, n: usize, s: &[u8], from: usize) -> Verdict
     requires { (from ≤ length s.now) × (n ≤ most_fields) }
     ensures { result ≡ judge k n None from (drop from s.now) }
 {
     let mut at = from;
     let mut id = id_at(s, from);
-    let mut before: usize = NO_MEMBER;
-    let mut i: usize = 0;
+    let mut before = None;
     let mut found = Ok(0);
-    'fields: loop {
-        if i == n {
-            found = Ok(0);
-            break 'fields;
-        }
+    'fields: for i in 0..n {
         let guard = is_guarded(k, id);
         let start = at + HEAD_WIDTH;
-        let mut end = start;
-        'content: while end < s.len() {
-            if s[end] == STAR {
+        let mut end = s.len().max(start);
+        'content: for place in start..s.len() {
+            if s[place] == STAR {
+                end = place;
                 break 'content;
             }
-            if is_barred(guard, s[end]) {
+            if is_barred(guard, s[place]) {
                 found = Err(Refusal::Content(at));
                 break 'fields;
             }
-            end += 1;
         }
         if !rule_kept(id, part(s, start, end)) {
             found = Err(Refusal::Content(at));
@@ -132,26 +118,26 @@ pub fn judge(k: Kind, n: usize, s: &[u8], from: usize) -> Verdict
             found = Err(Refusal::Group(at));
             break 'fields;
         }
-        before = id;
+        before = Some(id);
         id = after;
         at = end;
-        i += 1;
     }
     found
 }
 
 // How long the content is that starts at a place.
+// A chain of `position` or `take_while` was tried: its proof does not close at our word for the content.
+#[tactic(auto, using(crate::proofs::Contents::width_on))]
 fn content_width(s: &[u8], start: usize) -> usize
     ensures { result ≡ run not_star (drop start s.now) }
 {
-    let mut end = start;
-    while end < s.len() {
-        if s[end] == STAR {
-            return end - start;
+    let rest = part(s, start, s.len());
+    for (i, b) in rest.iter().enumerate() {
+        if *b == STAR {
+            return i;
         }
-        end += 1;
     }
-    end - start
+    rest.len()
 }
 
 // Three numbers into a table.
@@ -165,18 +151,17 @@ fn put_entry(table: &mut [usize], at: usize, id: usize, place: usize, width: usi
 }
 
 // The first n fields from a place on, into a table.
+#[tactic(auto, using(crate::proofs::Tables::stored))]
 pub fn fill(s: &[u8], from: usize, n: usize, table: &mut [usize])
     requires { (from ≤ length s.now) × (n * entry_width ≤ length table.old) × (n ≤ most_fields) }
     ensures { table.new ≡ entries_of n from (drop from s.now) ++ drop (n * entry_width) table.old }
 {
     let mut at = from;
-    let mut i: usize = 0;
-    while i < n {
+    for i in 0..n {
         let id = id_at(s, at);
         let start = at + HEAD_WIDTH;
         let width = content_width(s, start);
         put_entry(table, i * ENTRY_WIDTH, id, start, width);
         at = start + width;
-        i += 1;
     }
 }

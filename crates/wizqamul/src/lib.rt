@@ -1,4 +1,5 @@
 // The C library: the calls that the host program links, over byte slices and numbers. A slice is a pointer and a length, `used` one pointer.
+// The C interface is these pointers and lengths, so what travels together stays apart here: lines, slips and used, a table with its count, the five fields of a key.
 #![tactic(auto)]
 
 ghost use Rattle.std.specs.Prelude.{◌≡◌, [], ◌∷◌};

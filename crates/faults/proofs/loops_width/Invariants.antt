@@ -1,4 +1,4 @@
--- `faults::loops_width` meets its contract. The invariant: the width so far and that of the fields that are left are the width of all.
+-- `faults::loops_width` meets its contract. The invariant: the width so far, at most 131 bytes a part, and that of the fields that are left are the width of all.
 use mathlib.Core.Path.{◌≡◌}
 use Prim.Native.Nat.{◌+◌, ◌-◌, ◌*◌, ◌≤◌}
 use lib.ListN.{length}
@@ -8,9 +8,5 @@ use Rattle.lent_parts.specs.Faults.{fields_text}
 use Rattle.faults.proofs.loops_width.Given as goal
 
 abbrev pub invariant-loop-j : goal.invariant-loop-j
-invariant-loop-j l = (l.j ≤ l.n)
-    × (l.width ≤ l.j * 131)
-    × (length (fields_text (lent_fields l.n l.s 0)) ≡ l.width + length (fields_text (lent_fields (l.n - l.j) l.s (l.j * part_width))))
-
-abbrev pub decreases-loop-j : goal.decreases-loop-j
-decreases-loop-j l = l.n - l.j
+invariant-loop-j l = (l.width ≤ l.j * 131)
+    × (length (fields_text (lent_fields l.parts.count l.parts.room.now 0)) ≡ l.width + length (fields_text (lent_fields (l.parts.count - l.j) l.parts.room.now (l.j * part_width))))

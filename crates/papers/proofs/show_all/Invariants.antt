@@ -1,7 +1,6 @@
--- `papers::show_all` ends: each line takes it on.
-use Prim.Native.Nat.{◌-◌}
-use lib.ListN.{length}
+-- `papers::show_all` ends: what is left gets shorter with each line.
+use Rattle.std.proofs.Common.{length}
 use Rattle.papers.proofs.show_all.Given as goal
 
-abbrev pub decreases-loop-at : goal.decreases-loop-at
-decreases-loop-at g l = length l.s - l.at
+abbrev pub decreases-loop-rest : goal.decreases-loop-rest
+decreases-loop-rest g l = length l.rest

@@ -1,12 +1,8 @@
--- `walks::content_width` meets its contract. The invariant: the content ends where it ends from `end` on.
-use mathlib.Core.Path.{◌≡◌}
-use Prim.Native.Nat.{◌-◌, ◌≤◌}
-use lib.ListN.{length}
-use Rattle.walks.proofs.Contents.{end_of}
+-- The bytes passed and the content from there on come to the whole content.
+use Rattle.std.proofs.Common.{◌≡◌, ◌+◌, drop}
+use Rattle.cells.specs.Bytes.{run}
+use Rattle.record.specs.Fields.{not_star}
 use Rattle.walks.proofs.content_width.Given as goal
 
-abbrev pub invariant-loop-end : goal.invariant-loop-end
-invariant-loop-end l = (l.start ≤ l.end) × (end_of l.s l.start ≡ end_of l.s l.end)
-
-abbrev pub decreases-loop-end : goal.decreases-loop-end
-decreases-loop-end l = length l.s - l.end
+abbrev pub invariant-loop-i : goal.invariant-loop-i
+invariant-loop-i l = l.i + run not_star (drop l.i l.rest) ≡ run not_star l.rest

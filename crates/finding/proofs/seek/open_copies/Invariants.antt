@@ -4,5 +4,5 @@ use Rattle.cells.specs.Search.{sum_from}
 use Rattle.entry.specs.Stored.{open_at}
 use Rattle.finding.proofs.seek.open_copies.Given as goal
 
-abbrev pub invariant-loop-line : goal.invariant-loop-line
-invariant-loop-line l = sum_from (open_at l.lines l.school) l.count 0 ≡ l.sum + sum_from (open_at l.lines l.school) (l.count - l.line) l.line
+abbrev pub invariant-loop-i : goal.invariant-loop-i
+invariant-loop-i l = sum_from (open_at l.lines l.school) l.count 0 ≡ l.sum + sum_from (open_at l.lines l.school) (l.count - l.i) l.i

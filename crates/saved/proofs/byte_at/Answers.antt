@@ -1,7 +1,0 @@
--- `saved::byte_at` meets its contract.
-use mathlib.Core.Path.{sym}
-use lib.ListN.{get_or-eq_default}
-use Rattle.saved.proofs.byte_at.Goals as goal
-
-pub returns-then-s-at : goal.returns-then-s-at
-returns-then-s-at c = sym (get_or-eq_default c.args.s.now 0 c.if-s-at.true)
