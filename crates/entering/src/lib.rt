@@ -62,10 +62,7 @@ fn mark_in(report: &ReadRecord<Report>) -> Mark
 fn message_in(report: &ReadRecord<Report>) -> Message
     ensures { result ≡ message_in report.now.bytes.now }
 {
-    Message::Numbered(number_of(&bytes_at::<MESSAGE_WIDTH>(
-        report.bytes,
-        MESSAGE,
-    )))
+    Message::Numbered(number_of(&bytes_at::<MESSAGE_WIDTH>(report.bytes, MESSAGE)))
 }
 
 // An accepted order adds a line.
