@@ -21,7 +21,7 @@ digits n = replicate n 49
 abbrev field : String → List ℕ → List ℕ
 field id content = with_bytes (bytes id ++ content) X
 
--- a closing record (001, section 3.3)
+-- a closing record (RULES 2.2)
 abbrev pub C : List ℕ
 C = bytes "L10114914     VD43210     VD00000000                                       0000000000000000000     00000000 *90070004*9999"
 

@@ -1,4 +1,4 @@
--- Parts that make a record and parts that make none, by computation: the samples of document 01, and one case for each clause.
+-- Parts that make a record and parts that make none, by computation: the sample records, and one case for each clause.
 use Prim.Native.Nat.{ℕ}
 use mathlib.Core.Path.{◌≡◌, refl}
 use mathlib.Core.Bool.{true, false≢true}

@@ -1,4 +1,4 @@
--- Demand 2, read after write: a check of a record that was written finds the fields that it was written from.
+-- Read after write: a check of a record that was written finds the fields that it was written from.
 use mathlib.Core.Path.{◌≡◌, sym, refl, subst}
 use mathlib.Core.List.{List}
 use Prim.Native.Nat.{ℕ}

@@ -1,4 +1,4 @@
--- Demand 2, read exactly: reading answers 0 for the texts of records and for nothing else, and finds their parts.
+-- Read exactly: reading answers 0 for the texts of records and for nothing else, and finds their parts.
 use mathlib.Core.Path.{◌≡◌, ◌∙◌, ap, sym, refl}
 use mathlib.Core.List.{List}
 use Prim.Native.Nat.{ℕ, ◌+◌, ◌*◌, ◌≤◌}

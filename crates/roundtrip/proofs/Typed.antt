@@ -1,4 +1,4 @@
--- Demand 2, the typed halves: the values of a fixed part made from a typed record are that record, and the fixed part made from a record's values is the record's own.
+-- The typed halves of the round trip: the values of a fixed part made from a typed record are that record, and the fixed part made from a record's values is the record's own.
 use mathlib.Core.Path.{◌≡◌, ◌∙◌, ap, sym}
 use mathlib.Core.Bool.{Bool, true, false}
 use mathlib.Core.List.{List, [], ◌∷◌, ◌++◌, map}

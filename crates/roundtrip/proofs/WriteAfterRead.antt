@@ -1,4 +1,4 @@
--- Demand 2, write after read: a record that was read, written with its own fixed part, the table that the check filled and itself as lent contents, gives the same bytes.
+-- Write after read: a record that was read, written with its own fixed part, the table that the check filled and itself as lent contents, gives the same bytes.
 use mathlib.Core.Path.{◌≡◌}
 use mathlib.Core.List.{List, ◌++◌}
 use Prim.Native.Nat.{ℕ, ◌*◌, ◌≤◌}

@@ -1,4 +1,4 @@
--- Demand 2, write exactly: writing answers 0 where its parts make a record and the output has room for it, and nowhere else.
+-- Write exactly: writing answers 0 where its parts make a record and the output has room for it, and nowhere else.
 use mathlib.Core.Path.{◌≡◌, ◌∙◌, refl}
 use mathlib.Core.Bool.{true}
 use mathlib.Core.List.{List, ◌++◌}

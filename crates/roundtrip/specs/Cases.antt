@@ -1,4 +1,4 @@
--- Parts for the computed cases: those of document 01's samples, which make records, and others with one thing broken, which make none.
+-- Parts for the computed cases: those of the sample records, which make records, and others with one thing broken, which make none.
 use Rattle.std.specs.Prelude.{ℕ, List, [], ◌∷◌, ◌++◌, replicate}
 use Prim.Native.String.{String}
 use Rattle.cells.specs.Bytes.{bytes}

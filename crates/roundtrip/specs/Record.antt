@@ -1,4 +1,4 @@
--- What a record of document 01 is, said of its parts and without a walk over its bytes: a kind, the fields of a fixed part, and optional fields.
+-- What a record is (RULES 2.1), said of its parts and without a walk over its bytes: a kind, the fields of a fixed part, and optional fields.
 use Rattle.std.specs.Prelude.{ℕ, ◌*◌, ◌≤◌, ◌≡◌, Bool, true, false, ◌&&◌, List, [], ◌∷◌, eqb, ltb, length, take, Some, None, Option}
 use Rattle.cells.specs.Bytes.{all, joined}
 use Rattle.signs.specs.Class.{belongs}

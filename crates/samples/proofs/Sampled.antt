@@ -17,7 +17,7 @@ use Rattle.record.specs.Contents.{contents, is_in, rule_in, content_rule, guarde
 use Rattle.record.specs.Answers.{refusal_number, refusal_place, checked_of, ◌then◌}
 use Rattle.record.specs.Fields.{head_of, id_in, id_of, content_width, content_of, field_width, after_field, on_head, at_field, walk, judge, fields_of, entries_of}
 use Rattle.record.specs.Values.{field_bytes, order_of, delivery_of, report_of, no_order}
-use Rattle.record.specs.Read.{bytes_judged, fixed_judged, after_walk, optional_judged, kind_judged, judged, outcome, optional_start, optional_fields, table_after, check, judged_as, order_from, read_order, delivery_from, read_delivery, report_from, read_report}
+use Rattle.record.specs.Read.{bytes_judged, fixed_judged, after_walk, optional_judged, kind_judged, judged, outcome, optional_start, optional_fields, table_after, check, judged_as, typed_from, read_order, read_delivery, read_report}
 use Rattle.record.specs.Samples.{X, Y, Z, put, Call, cases, reading_of, first_wrong}
 use Rattle.record.specs.Edges.{C, record_edges, byte_edges, order_edges, delivery_edges, walk_edges, titled, full_table, short_table, content_edges, group_edges}
 use Rattle.signs.specs.declared.Class.TheVariants.{Allowed}
@@ -52,7 +52,7 @@ pub record Computed : Type 0 where
   pub order : read_order X
       ≡ record {
         checked = record { answer = 0; place = 0; fields = 0 };
-        order = record {
+        value = record {
           sender = record { address = bytes "43210     "; qualifier = bytes "VD" };
           recipient = record { address = bytes "24000     "; qualifier = bytes "VD" };
           date = record { year = 2024; month = 2; day = 19 };
@@ -62,17 +62,17 @@ pub record Computed : Type 0 where
           measure = bytes "ST";
         };
       }
-  pub delivery : (read_delivery Y).delivery.price ≡ record { 0 = 129500 }
-  pub discount : (read_delivery Y).delivery.discount ≡ record { 0 = 300000 }
-  pub closed : (read_delivery C).delivery.date ≡ record { year = 0; month = 0; day = 0 }
-  pub blanks : (read_report Z).report.expected ≡ Blanks
-  pub zeros : (read_report (put 67 "00000000" Z)).report.expected ≡ Zeros
-  pub dated : (read_report (put 67 "20240229" Z)).report.expected ≡ On (record { year = 2024; month = 2; day = 29 })
+  pub delivery : (read_delivery Y).value.price ≡ record { 0 = 129500 }
+  pub discount : (read_delivery Y).value.discount ≡ record { 0 = 300000 }
+  pub closed : (read_delivery C).value.date ≡ record { year = 0; month = 0; day = 0 }
+  pub blanks : (read_report Z).value.expected ≡ Blanks
+  pub zeros : (read_report (put 67 "00000000" Z)).value.expected ≡ Zeros
+  pub dated : (read_report (put 67 "20240229" Z)).value.expected ≡ On (record { year = 2024; month = 2; day = 29 })
   -- another kind is 2, with zeros
-  pub other : read_order Y ≡ record { checked = record { answer = 2; place = 0; fields = 0 }; order = no_order }
+  pub other : read_order Y ≡ record { checked = record { answer = 2; place = 0; fields = 0 }; value = no_order }
 
 pub computed : Computed
-unfolding all any run same among belongs all_of of_class padded named number_from leap month_days real_day day_of is_day judgedDay check_value weighted gs1 isbn series_volume article texts day_count expected keeps layout total start_of kind_of first_broken contents is_in rule_in content_rule guarded_ids guarded content_kept groups first_of next_in previous_in group_with next_member previous_member is_wanted group_kept refusal_number refusal_place checked_of ◌then◌ head_of id_in id_of content_width content_of field_width after_field on_head at_field walk judge fixed_width bytes_judged fixed_judged after_walk optional_judged kind_judged judged expected_of fields_of entries_of field_bytes order_of delivery_of report_of optional_start optional_fields table_after check judged_as order_from read_order delivery_from read_delivery report_from read_report titled full_table short_table cases allowed_bytes other_bytes record_edges byte_edges order_edges delivery_edges walk_edges content_edges group_edges reading_of first_wrong
+unfolding all any run same among belongs all_of of_class padded named number_from leap month_days real_day day_of is_day judgedDay check_value weighted gs1 isbn series_volume article texts day_count expected keeps layout total start_of kind_of first_broken contents is_in rule_in content_rule guarded_ids guarded content_kept groups first_of next_in previous_in group_with next_member previous_member is_wanted group_kept refusal_number refusal_place checked_of ◌then◌ head_of id_in id_of content_width content_of field_width after_field on_head at_field walk judge fixed_width bytes_judged fixed_judged after_walk optional_judged kind_judged judged expected_of fields_of entries_of field_bytes order_of delivery_of report_of optional_start optional_fields table_after check judged_as typed_from read_order read_delivery read_report titled full_table short_table cases allowed_bytes other_bytes record_edges byte_edges order_edges delivery_edges walk_edges content_edges group_edges reading_of first_wrong
 computed = record {
   each_byte = refl;
   allowed = refl;

@@ -1,2 +1,2 @@
-// The samples of document 01 and the edges of its rules, computed of the definitions of reading and writing. No code.
+// The samples of the papers and the edges of the rules, computed of the definitions of reading and writing. No code.
 #![tactic(auto)]
