@@ -6,7 +6,7 @@ ghost use Rattle.entry.specs.Keyed.{fields_of};
 ghost use Rattle.book.specs.Lent.{lent};
 ghost use Rattle.book.specs.Asked.{key_widths, are_wide, line_asked};
 
-use book::answer::{Refused, Told, done, refuse};
+use book::answer::{Refused, Told};
 use entry::key::{ADDRESS_WIDTH, QUALIFIER_WIDTH, REFERENCE_WIDTH};
 use entry::line_key::LineKey;
 use finding::lent::LentBook;
@@ -55,7 +55,7 @@ pub fn line<'a>(
     ensures { result ≡ line_asked (school.now ∷ school_qualifier.now ∷ supplier.now ∷ supplier_qualifier.now ∷ reference.now ∷ []) (lent lines.now slips.now used.now) }
 {
     let Some(book) = SoundBook::of(LentBook { lines, slips, used }) else {
-        return refuse(Refused::Unsound);
+        return Told::from(Refused::Unsound);
     };
     let Some(key) = key_of(
         school,
@@ -64,10 +64,10 @@ pub fn line<'a>(
         supplier_qualifier,
         reference,
     ) else {
-        return refuse(Refused::NoLine);
+        return Told::from(Refused::NoLine);
     };
     match book.line_with(key) {
-        None => refuse(Refused::NoLine),
-        Some(i) => done(book.line(i)),
+        None => Told::from(Refused::NoLine),
+        Some(i) => Told::from(book.line(i)),
     }
 }

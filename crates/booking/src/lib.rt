@@ -8,7 +8,7 @@ ghost use Rattle.book.specs.Booking.{outcome, entered_as, book_as, book_read, bo
 ghost use Rattle.entering.specs.Held.{held, SameRooms};
 ghost use Rattle.booking.specs.Fits.{Fits};
 
-use book::answer::{Booked, Refused, not_booked};
+use book::answer::{Booked, Refused};
 use entering::held::Book;
 use entering::{enter_goods, enter_order, enter_report};
 use finding::seek::is_sound;
@@ -53,7 +53,7 @@ fn book_as<K: Entered>(given: &ReadRecord<K>, roster: &[u8], book: &mut Book) ->
     ensures same { SameRooms book.old book.new }
 {
     match judge(given, roster, book.view()) {
-        Err(r) => not_booked(r),
+        Err(r) => Booked::from(r),
         Ok(i) => K::enter(given, book, i),
     }
 }
@@ -66,14 +66,14 @@ fn book_read(s: &[u8], roster: &[u8], book: &mut Book) -> Booked
     ensures same { SameRooms book.old book.new }
 {
     if let Err(r) = judge_record(s) {
-        return not_booked(Refused::Unread(r));
+        return Booked::from(Refused::Unread(r));
     }
     match kind_of(s) {
         Some(Kind::Order) => book_as(&ReadRecord::<Order>::of(s), roster, book),
         Some(Kind::Goods) => book_as(&ReadRecord::<Goods>::of(s), roster, book),
         Some(Kind::Report) => book_as(&ReadRecord::<Report>::of(s), roster, book),
-        Some(Kind::Closing) => not_booked(Refused::NothingToBook),
-        None => not_booked(Refused::NothingToBook),
+        Some(Kind::Closing) => Booked::from(Refused::NothingToBook),
+        None => Booked::from(Refused::NothingToBook),
     }
 }
 
@@ -89,7 +89,7 @@ pub fn book(
     ensures { outcome result (lent lines.new slips.new used.new) ≡ book s.now roster.now (lent lines.old slips.old used.old) }
 {
     if !is_roster(roster) || !is_sound(lines, slips, used) {
-        return not_booked(Refused::Unsound);
+        return Booked::from(Refused::Unsound);
     }
     let mut book = Book { lines, slips, used };
     book_read(s, roster, &mut book)

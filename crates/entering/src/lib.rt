@@ -11,7 +11,7 @@ ghost use Rattle.entering.specs.Held.{held, SameRooms};
 pub mod held;
 
 use crate::held::Book;
-use book::answer::{AGREED, Booked, done, with_agreed};
+use book::answer::{AGREED, Booked, Told};
 use cells::{bytes_at, part};
 use entry::line::{Line, Mark};
 use entry::report::{Message, expected_date};
@@ -28,6 +28,9 @@ use stored::write::{write_arrived, write_new_line, write_report, write_slip};
 
 // The mark that holds an order open.
 const LETTER_J: u8 = 74;
+
+// The digits of a message number.
+const MESSAGE_WIDTH: usize = 3;
 
 // A new line: nothing has arrived, and no report has come.
 #[tactic(auto, unfolding(entry::specs::Line::new_line))]
@@ -56,10 +59,10 @@ fn mark_in(report: &ReadRecord<Report>) -> Mark
 
 // The message number of a report.
 #[tactic(auto, using(crate::proofs::Entered::told))]
-fn message_in(s: &[u8]) -> Message
-    ensures { result ≡ message_in s.now }
+fn message_in(report: &ReadRecord<Report>) -> Message
+    ensures { result ≡ message_in report.now.bytes.now }
 {
-    Message::Numbered(number_of(part(s, MESSAGE, HOLD)))
+    Message::Numbered(number_of(&bytes_at::<MESSAGE_WIDTH>(report.bytes, MESSAGE)))
 }
 
 // An accepted order adds a line.
@@ -77,7 +80,7 @@ pub fn enter_order(order: &ReadRecord<Order>, book: &mut Book, i: usize) -> Book
         order.copies,
     );
     book.used[0] += 1;
-    with_agreed(done(new_line(order.copies)), AGREED)
+    Told::from(new_line(order.copies)).with_agreed(AGREED)
 }
 
 // An accepted delivery adds a slip, and its copies to its line.
@@ -93,7 +96,7 @@ pub fn enter_goods(goods: &ReadRecord<Goods>, book: &mut Book, i: usize) -> Book
     let j = book.used[1];
     write_slip(book.slips, j, slip_key(goods.bytes), i, goods.copies);
     book.used[1] = j + 1;
-    with_agreed(done(l), same_article)
+    Told::from(l).with_agreed(same_article)
 }
 
 // An accepted report sets the mark, the message and the expected date.
@@ -105,9 +108,9 @@ pub fn enter_report(report: &ReadRecord<Report>, book: &mut Book, i: usize) -> B
 {
     let same_article = book.agreed(i, Report::article(report.bytes));
     let mark = mark_in(report);
-    let message = message_in(report.bytes);
+    let message = message_in(report);
     let date = bytes_at(report.bytes, EXPECTED);
     let l = book.line(i).with_report(mark, message, expected_date(date));
     write_report(book.lines, i, mark, message, date);
-    with_agreed(done(l), same_article)
+    Told::from(l).with_agreed(same_article)
 }

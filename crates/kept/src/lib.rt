@@ -1,15 +1,17 @@
 // An entry of a saved book, judged by its body.
 #![tactic(auto)]
 
+pub mod lines;
+
 ghost use Rattle.std.specs.Prelude.{◌≡◌, [], ◌∷◌, eqb, length};
 ghost use Rattle.signs.specs.Class.{all_of};
 ghost use Rattle.signs.specs.declared.Class.TheVariants.{Allowed};
-ghost use Rattle.save.specs.Entries.{reference_at, slip_number_at, line_fields, goods_fields, fields_kept, report_kept, line_kept, parties_agree, slip_kept};
+ghost use Rattle.save.specs.Entries.{reference_at, line_fields, goods_fields, fields_kept, report_kept, line_kept, parties_agree, slip_named, slip_kept};
 ghost use Rattle.save.specs.Form.{front_of};
 ghost use Rattle.save.specs.Saved.{slip_body_width, line_in};
 ghost use Rattle.record.specs.Layout.{first_broken};
-ghost use Rattle.book.specs.Booking.{slip_fields};
 
+use crate::lines::KeptLines;
 use cells::little::get;
 use cells::{bytes_at, part, same};
 use entry::key::{
@@ -20,7 +22,7 @@ use entry::report::{MOST_MARK, is_report_sound};
 use rules::article::is_article;
 use rules::rule::{Texts, is_day, is_one_of};
 use save::form::Form;
-use save::lines::{LineBody, Lines};
+use save::lines::LineBody;
 use signs::{Class, all_of, allowed_run, is_named, is_padded, of_class};
 use stored::{
     EXPECTED_AT, MARK_AT, MESSAGE_AT, MOST_COPIES, ORDERED_AT, SLIP_COPIES_AT, SLIP_KEY_WIDTH,
@@ -70,15 +72,12 @@ fn is_line_named(named: &[u8]) -> bool
         & !all_of(Class::Blank, reference)
 }
 
-// Whether a slip's key keeps the rules: its parties, its date, its slip number, which is not blank, and its position.
-#[tactic(auto, using(save::proofs::Keys::slip_judged_law, save::proofs::Keys::parties_judged))]
-fn is_slip_key(key: &[u8]) -> bool
-    ensures { result ≡ fields_kept slip_fields slip_number_at key.now }
+// Whether what a slip is named by besides its parties keeps the rules: its date, its slip number, which is not blank, and its position.
+#[tactic(auto, unfolding(save::specs::Entries::slip_named))]
+fn is_slip_named(key: &[u8]) -> bool
+    ensures { result ≡ slip_named key.now }
 {
     if !are_allowed(key) {
-        return false;
-    }
-    if !are_parties(key) {
         return false;
     }
     let date = part(key, DATE_AT, SLIP_NUMBER_AT);
@@ -135,13 +134,14 @@ fn do_parties_agree(slip: &[u8], line: &[u8]) -> bool
     )
 }
 
-// Whether a slip of a save keeps the rules, by the lines of it.
-#[tactic(auto, unfolding(save::specs::Entries::slip_kept, save::specs::Entries::slip_copies, save::specs::Entries::line_index, save::specs::Saved::line_in), using(save::proofs::Fronts::front_parties))]
-pub fn is_slip_kept(lines: Lines, slip: &[u8]) -> bool
+// Whether a slip of a save keeps the rules, by the lines of it: its parties are its line's, which were judged, so they are only compared.
+#[tactic(auto, unfolding(save::specs::Entries::slip_copies, save::specs::Entries::line_index, save::specs::Saved::line_in), using(save::proofs::Keys::slip_kept_by, save::proofs::Fronts::front_parties))]
+pub fn is_slip_kept(kept: KeptLines, slip: &[u8]) -> bool
     requires { length slip.now ≡ slip_body_width }
-    ensures { result ≡ slip_kept lines.entry.count (line_in lines.entry.form lines.entry.bytes.now) slip.now }
+    ensures { result ≡ slip_kept kept.entry.lines.count (line_in kept.entry.lines.form kept.entry.lines.bytes.now) slip.now }
 {
-    if !is_slip_key(part(slip, 0, SLIP_KEY_WIDTH)) {
+    let lines = kept.lines;
+    if !is_slip_named(part(slip, 0, SLIP_KEY_WIDTH)) {
         return false;
     }
     let copies = get::<2>(slip, SLIP_COPIES_AT);

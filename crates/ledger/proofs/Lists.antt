@@ -8,7 +8,6 @@ use mathlib.Core.List.{List, [], ◌∷◌, ◌++◌, map}
 use lib.Dec.{leb}
 use lib.ListN.{length}
 use borrow.Author.Tests.{leb-false, lt-leb}
-use Rattle.cells.proofs.Bools.{split}
 use Rattle.ledger.specs.Lists.{keep, total, first, change, found}
 
 -- each entry of a list has a property
@@ -27,25 +26,25 @@ module _ {A : Type 0} where
   pub keep_in : (p : A → Bool) (l : List A) (a : A) → p a ≡ true → keep p (l ++ (a ∷ [])) ≡ keep p l ++ (a ∷ [])
   unfolding keep
   keep_in p [] a h = cc
-  keep_in p (b ∷ l) a h = let ih = keep_in p l a h in split (p b) (λ e. cc) (λ e. cc)
+  keep_in p (b ∷ l) a h = grind (arith, keep_in p l a h)
 
   -- one more entry that does not pass is not kept
   pub keep_out : (p : A → Bool) (l : List A) (a : A) → p a ≡ false → keep p (l ++ (a ∷ [])) ≡ keep p l
   unfolding keep
   keep_out p [] a h = cc
-  keep_out p (b ∷ l) a h = let ih = keep_out p l a h in split (p b) (λ e. cc) (λ e. cc)
+  keep_out p (b ∷ l) a h = grind (arith, keep_out p l a h)
 
   -- where there is no first match, nothing is kept
   pub keep_none : (p : A → Bool) (l : List A) → first p l ≡ none → keep p l ≡ []
   unfolding keep first
   keep_none p [] e = refl
-  keep_none p (a ∷ l) e = split (p a) (λ f. cc) (λ f. let ih = keep_none p l (cc) in cc)
+  keep_none p (a ∷ l) e = grind (arith, keep_none p l)
 
   -- no more is kept than was there
   pub keep_most : (p : A → Bool) (l : List A) → length (keep p l) ≤ length l
   unfolding keep
   keep_most p [] = omega arith
-  keep_most p (b ∷ l) = let ih = keep_most p l in split (p b) (λ e. rw e (omega arith)) (λ e. rw e (omega arith))
+  keep_most p (b ∷ l) = grind (arith, keep_most p l)
 
   -- room for a list is room for what is kept of it
   pub keep_room : (n : ℕ) (p : A → Bool) (l : List A) → leb n (length l) ≡ false → leb n (length (keep p l)) ≡ false
@@ -67,23 +66,19 @@ module _ {A : Type 0} where
   pub total_kept : (f g : A → ℕ) (p : A → Bool) → ((a : A) → p a ≡ true → f a ≡ g a) → (l : List A) → total f (keep p l) ≡ total g (keep p l)
   unfolding total keep
   total_kept f g p h [] = refl
-  total_kept f g p h (a ∷ l) =
-      let ih = total_kept f g p h l in
-      split (p a) (λ e. let k = h a e in rw e (omega arith)) (λ e. rw e ih)
+  total_kept f g p h (a ∷ l) = grind (arith, h a, total_kept f g p h l)
 
   -- two tests may be asked either way round
   pub keep_swap : (p q : A → Bool) (l : List A) → keep p (keep q l) ≡ keep q (keep p l)
   unfolding keep
   keep_swap p q [] = refl
-  keep_swap p q (a ∷ l) =
-      let ih = keep_swap p q l in
-      split (p a) (λ e. split (q a) (λ f. cc) (λ f. cc)) (λ e. split (q a) (λ f. cc) (λ f. cc))
+  keep_swap p q (a ∷ l) = grind (arith, keep_swap p q l)
 
   -- a sum over what is kept is at most the whole sum, also among what another test keeps
   total_most : (f : A → ℕ) (p : A → Bool) (l : List A) → total f (keep p l) ≤ total f l
   unfolding total keep
   total_most f p [] = omega arith
-  total_most f p (a ∷ l) = let ih = total_most f p l in split (p a) (λ e. rw e (omega arith)) (λ e. rw e (omega arith))
+  total_most f p (a ∷ l) = grind (arith, total_most f p l)
 
   pub kept_most : (f : A → ℕ) (q p : A → Bool) (l : List A) → total f (keep q (keep p l)) ≤ total f (keep q l)
   kept_most f q p l = rw (keep_swap q p l) (total_most f p (keep q l))
@@ -93,8 +88,7 @@ module _ {A : Type 0} where
       → total g (change q f l) ≡ total g l + n
   unfolding total change first found
   total_change g q f n h [] t = cc
-  total_change g q f n h (a ∷ l) t =
-      split (q a) (λ e. rw e (omega (arith, h a))) (λ e. rw e (omega (arith, total_change g q f n h l (cc))))
+  total_change g q f n h (a ∷ l) t = grind (arith, h a, total_change g q f n h l)
 
   -- where all that q passes is kept
   module _ (p q : A → Bool) (inside : (a : A) → p a ≡ false → q a ≡ false) where
@@ -102,46 +96,38 @@ module _ {A : Type 0} where
     pub first_keep : (l : List A) → first q (keep p l) ≡ first q l
     unfolding first keep
     first_keep [] = refl
-    first_keep (a ∷ l) = let ih = first_keep l in split (p a) (λ e. cc) (λ e. cc (inside a e))
+    first_keep (a ∷ l) = grind (arith, inside a, first_keep l)
 
     -- a change of the first match changes what is kept
     pub change_keep : (f : A → A) → ((a : A) → p (f a) ≡ p a) → (l : List A) → keep p (change q f l) ≡ change q f (keep p l)
     unfolding change keep
     change_keep f g [] = refl
-    change_keep f g (a ∷ l) =
-        let ih = change_keep f g l in
-        split (p a) (λ e. split (q a) (λ i. cc (g a)) (λ i. cc)) (λ e. cc (inside a e))
+    change_keep f g (a ∷ l) = grind (arith, g a, inside a, change_keep f g l)
 
   -- a change of what is not kept leaves what is kept
   pub change_apart : (p q : A → Bool) → ((a : A) → q a ≡ true → p a ≡ false) → (f : A → A) → ((a : A) → p (f a) ≡ p a)
       → (l : List A) → keep p (change q f l) ≡ keep p l
   unfolding change keep
   change_apart p q h f g [] = refl
-  change_apart p q h f g (a ∷ l) =
-      let ih = change_apart p q h f g l in
-      split (q a) (λ i. cc (g a, h a i)) (λ i. split (p a) (λ e. cc) (λ e. cc))
+  change_apart p q h f g (a ∷ l) = grind (arith, g a, h a, change_apart p q h f g l)
 
   -- what has no match has none among what is kept
   pub first_none : (p q : A → Bool) (l : List A) → first q l ≡ none → first q (keep p l) ≡ none
   unfolding first keep
   first_none p q [] e = refl
-  first_none p q (a ∷ l) e =
-      split (q a) (λ f. cc) (λ f. let ih = first_none p q l (cc) in split (p a) (λ g. cc) (λ g. cc))
+  first_none p q (a ∷ l) e = grind (arith, first_none p q l)
 
   -- what is found is found in a longer list
   pub found_more : (q : A → Bool) (l : List A) (a : A) → found (first q l) ≡ true → found (first q (l ++ (a ∷ []))) ≡ true
   unfolding first found
   found_more q [] a t = cc
-  found_more q (b ∷ l) a t = split (q b) (λ e. cc) (λ e. let ih = found_more q l a (cc) in cc)
+  found_more q (b ∷ l) a t = grind (arith, found_more q l a)
 
   -- a change that keeps a test keeps what it finds
   pub found_change : (q o : A → Bool) (f : A → A) → ((a : A) → q (f a) ≡ q a) → (l : List A) → found (first q (change o f l)) ≡ found (first q l)
   unfolding first change found
   found_change q o f h [] = refl
-  found_change q o f h (a ∷ l) =
-      let ih = found_change q o f h l in
-      let k = h a in
-      split (o a) (λ e. split (q a) (λ i. cc) (λ i. cc)) (λ e. split (q a) (λ i. cc) (λ i. cc))
+  found_change q o f h (a ∷ l) = grind (arith, h a, found_change q o f h l)
 
   -- a property of each entry and of one more
   pub each_more : (P : A → Type 0) (l : List A) (a : A) → Each P l → P a → Each P (l ++ (a ∷ []))

@@ -1,7 +1,7 @@
 -- Laws of lists whose entries are all known to have a property: tests and figures that agree on such entries.
-use Prim.Native.Nat.{ℕ, ◌+◌}
+use Prim.Native.Nat.{ℕ}
 use native.Mathlib.Omega.{arith}
-use mathlib.Core.Path.{◌≡◌, refl, ap}
+use mathlib.Core.Path.{◌≡◌, refl}
 use mathlib.Core.Bool.{Bool, true, false}
 use mathlib.Core.Option.{Option, none, some}
 use mathlib.Core.List.{List, [], ◌∷◌, map}
@@ -15,7 +15,7 @@ module _ {A : Type 0} where
   pub total_keep : (f : A → ℕ) (p : A → Bool) (l : List A) → total f (keep p l) ≡ total (λ a. pick (p a) (f a) 0) l
   unfolding total keep
   total_keep f p [] = refl
-  total_keep f p (a ∷ l) = let ih = total_keep f p l in split (p a) (λ e. rw e (ap (λ (n : ℕ). f a + n) ih)) (λ e. rw e (omega (arith, ih)))
+  total_keep f p (a ∷ l) = grind (arith, total_keep f p l)
 
   -- the first match is the first of what is kept
   abbrev pub foremost : List A → Option A
@@ -25,15 +25,13 @@ module _ {A : Type 0} where
   pub first_foremost : (p : A → Bool) (l : List A) → first p l ≡ foremost (keep p l)
   unfolding first keep
   first_foremost p [] = refl
-  first_foremost p (a ∷ l) = let ih = first_foremost p l in split (p a) (λ e. rw e refl) (λ e. rw e ih)
+  first_foremost p (a ∷ l) = grind (arith, first_foremost p l)
 
   -- what passes one test, where it passes the other, is kept by both
   pub keep_within : (p q : A → Bool) → ((a : A) → p a ≡ true → q a ≡ true) → (l : List A) → keep p (keep q l) ≡ keep p l
   unfolding keep
   keep_within p q h [] = refl
-  keep_within p q h (a ∷ l) =
-      let ih = keep_within p q h l in
-      split (p a) (λ e. let f = h a e in cc) (λ e. split (q a) (λ f. cc) (λ f. cc))
+  keep_within p q h (a ∷ l) = grind (arith, h a, keep_within p q h l)
 
   module _ (P : A → Type 0) where
     pub each_kept : (p : A → Bool) (l : List A) → Each P l → Each P (keep p l)
@@ -44,9 +42,7 @@ module _ {A : Type 0} where
     pub keep_each : (p q : A → Bool) → ((a : A) → P a → p a ≡ q a) → (l : List A) → Each P l → keep p l ≡ keep q l
     unfolding keep
     keep_each p q s [] h = refl
-    keep_each p q s (a ∷ l) h =
-        let ih = keep_each p q s l h.1 in
-        rw (s a h.0) (split (q a) (λ e. rw e (ap (λ (x : List A). a ∷ x) ih)) (λ e. rw e ih))
+    keep_each p q s (a ∷ l) h = grind (arith, s a h.0, keep_each p q s l h.1)
 
     pub total_each : (f g : A → ℕ) → ((a : A) → P a → f a ≡ g a) → (l : List A) → Each P l → total f l ≡ total g l
     unfolding total
@@ -58,9 +54,7 @@ module _ {A : Type 0} where
         → keep q (map f l) ≡ map f (keep p l)
     unfolding keep
     keep_mapped f q p s [] h = refl
-    keep_mapped {B = B} f q p s (a ∷ l) h =
-        let ih = keep_mapped f q p s l h.1 in
-        rw (s a h.0) (split (p a) (λ e. rw e (ap (λ (x : List B). f a ∷ x) ih)) (λ e. rw e ih))
+    keep_mapped f q p s (a ∷ l) h = grind (arith, s a h.0, keep_mapped f q p s l h.1)
 
 -- a test that no entry passes keeps nothing
 pub keep_nothing : {A : Type 0} (l : List A) → keep (λ a. false) l ≡ []

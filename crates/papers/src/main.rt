@@ -50,19 +50,19 @@ fn write_back<W: Write>(out: &mut W, listed: Listed) -> io::Result<()> {
     show_written(out, "bytes", written, &copy, record)?;
     let (what, written) = match kind {
         Kind::Order => {
-            let order = read_order(record).order;
+            let order = read_order(record).value;
             ("order", write_order(order, table, fields, record, &mut copy))
         }
         Kind::Goods => {
-            let delivery = read_delivery(record).delivery;
+            let delivery = read_delivery(record).value;
             ("delivery", write_delivery(delivery, table, fields, record, &mut copy))
         }
         Kind::Closing => {
-            let delivery = read_delivery(record).delivery;
+            let delivery = read_delivery(record).value;
             ("closing record", write_delivery(delivery, table, fields, record, &mut copy))
         }
         Kind::Report => {
-            let report = read_report(record).report;
+            let report = read_report(record).value;
             ("report", write_report(report, table, fields, record, &mut copy))
         }
     };

@@ -23,6 +23,7 @@ use Rattle.record.specs.Verdicts.{Verdict}
 use Rattle.std.specs.Prelude.{Err, None, Ok, Option, Some}
 use Rattle.record.specs.declared.layout.Kind.{Kind}
 use Rattle.record.specs.declared.layout.Kind.TheVariants.{Order, Goods, Closing, Report}
+use Rattle.std.proofs.lemmas.Bool.Decides.{nat_tests}
 use Rattle.walks.proofs.Walked.{walk_count}
 use Rattle.reader.proofs.Stages.{kind_short, too_long, by_kind, as_long, as_other, as_named}
 
@@ -165,3 +166,5 @@ pub fits_count : (s : List ℕ) (n : ℕ) → judged s ≡ Ok n → n ≤ most_f
 fits_count s n e =
     let k = fits_known s n e in
     walk_count most_fields 0 _ _ n (fitting k.0 s n k.1 e).walked
+
+pub ruleset fits = (fits_start, fits_count, nat_tests)

@@ -1,4 +1,4 @@
 pub mod Fitting
 pub mod Promises
-pub mod Readings
 pub mod Stages
+pub mod Zeros

@@ -13,9 +13,10 @@ use Rattle.record.specs.declared.answer.Refusal.TheVariants.{SmallTable}
 use Rattle.record.specs.Verdicts.{Verdict}
 use Rattle.std.specs.Prelude.{Err, Ok}
 use Rattle.record.specs.declared.answer.Checked.{Checked}
-use Rattle.record.specs.declared.answer.ReadOrder.{ReadOrder}
-use Rattle.record.specs.declared.answer.ReadDelivery.{ReadDelivery}
-use Rattle.record.specs.declared.answer.ReadReport.{ReadReport}
+use Rattle.record.specs.declared.answer.ReadAs.{ReadAs}
+use Rattle.record.specs.declared.values.Order.{Order}
+use Rattle.record.specs.declared.values.Delivery.{Delivery}
+use Rattle.record.specs.declared.values.Report.{Report}
 
 -- `check`: the answer, place and number of fields, and the table at exit, are fixed by the record and the table at entry
 pub check_unique : (s table : List ℕ) (said said' : Checked) (exit exit' : List ℕ)
@@ -29,13 +30,13 @@ pub judged_unique : (s : List ℕ) (v v' : Verdict) → v ≡ judged s → v' �
 judged_unique s v v' p q = p ∙ sym q
 
 -- `read_order`, `read_delivery` and `read_report`
-pub order_unique : (s : List ℕ) (r r' : ReadOrder) → r ≡ read_order s → r' ≡ read_order s → r ≡ r'
+pub order_unique : (s : List ℕ) (r r' : ReadAs Order) → r ≡ read_order s → r' ≡ read_order s → r ≡ r'
 order_unique s r r' p q = p ∙ sym q
 
-pub delivery_unique : (s : List ℕ) (r r' : ReadDelivery) → r ≡ read_delivery s → r' ≡ read_delivery s → r ≡ r'
+pub delivery_unique : (s : List ℕ) (r r' : ReadAs Delivery) → r ≡ read_delivery s → r' ≡ read_delivery s → r ≡ r'
 delivery_unique s r r' p q = p ∙ sym q
 
-pub report_unique : (s : List ℕ) (r r' : ReadReport) → r ≡ read_report s → r' ≡ read_report s → r ≡ r'
+pub report_unique : (s : List ℕ) (r r' : ReadAs Report) → r ≡ read_report s → r' ≡ read_report s → r ≡ r'
 report_unique s r r' p q = p ∙ sym q
 
 -- a verdict that is not answered 0 leaves a table as it was

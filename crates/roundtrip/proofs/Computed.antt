@@ -19,7 +19,7 @@ use Rattle.record.specs.Contents.{contents, is_in, rule_in, content_rule, guarde
 use Rattle.record.specs.Samples.{X, Y, Z, with}
 use Rattle.record.specs.Edges.{C}
 use Rattle.record.specs.declared.layout.Kind.TheVariants.{Goods}
-use Rattle.std.specs.Prelude.{Some, None}
+use Rattle.std.specs.Prelude.{Some, None as Nothing}
 use Rattle.writing.specs.Digits.{digits_of}
 use Rattle.writing.specs.Write.{field_text, optional_text, record_text}
 use Rattle.roundtrip.specs.Record.{Parts, fixed_part, text_of, fixed_kept, optional_kept, MakesRecord}
@@ -66,7 +66,7 @@ pub record Computed : Type 0 where
 
 -- by its clauses, each of which computes
 makes : (r : Parts) → kind_of (fixed_part r) ≡ Some r.kind → fixed_kept (layout r.kind) r.fixed ≡ true
-    → optional_kept r.kind None r.optional ≡ true → leb (length r.optional) most_fields ≡ true → leb (length (text_of r)) most_bytes ≡ true
+    → optional_kept r.kind Nothing r.optional ≡ true → leb (length r.optional) most_fields ≡ true → leb (length (text_of r)) most_bytes ≡ true
     → all (belongs Allowed) (text_of r) ≡ true → MakesRecord r
 makes r n f o m l a = record {
   named = n;

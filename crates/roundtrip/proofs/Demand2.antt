@@ -1,4 +1,4 @@
--- Demand 2 whole, and beside it the two halves of the round trip for the typed records of all three kinds.
+-- All of it, and beside it the two halves of the round trip for the typed records of all three kinds.
 use mathlib.Core.Path.{◌≡◌, ◌∙◌, ap, sym, refl, subst}
 use mathlib.Core.Bool.{Bool, true, false}
 use mathlib.Core.List.{List, ◌++◌}
@@ -14,15 +14,13 @@ use Rattle.signs.specs.declared.Class.TheVariants.{Allowed, Zero}
 use Rattle.signs.proofs.Runs.{run_all}
 use Rattle.record.specs.Layout.{most_fields, date_start, layout, total, fixed_width, kind_of}
 use Rattle.record.specs.Answers.{checked_of}
-use Rattle.record.specs.Values.{order_of, delivery_of, report_of}
+use Rattle.record.specs.Values.{order_of, delivery_of, report_of, no_order, no_delivery, no_report}
 use Rattle.record.specs.Fields.{Optional}
-use Rattle.record.specs.Read.{judged, entry_width, check, judged_as, order_from, delivery_from, report_from, read_order, read_delivery, read_report}
+use Rattle.record.specs.Read.{judged, entry_width, check, judged_as, typed_from, read_order, read_delivery, read_report}
 use Rattle.record.specs.Verdicts.{Verdict}
 use Rattle.std.specs.Prelude.{Err, Ok}
 use Rattle.record.specs.declared.answer.Checked.{Checked}
-use Rattle.record.specs.declared.answer.ReadOrder.{ReadOrder}
-use Rattle.record.specs.declared.answer.ReadDelivery.{ReadDelivery}
-use Rattle.record.specs.declared.answer.ReadReport.{ReadReport}
+use Rattle.record.specs.declared.answer.ReadAs.{ReadAs}
 use Rattle.record.specs.declared.layout.Kind.TheVariants.{Order as order, Goods as goods, Closing as closing, Report as report}
 use Rattle.record.specs.declared.values.Order.{Order}
 use Rattle.record.specs.declared.values.Delivery.{Delivery}
@@ -31,7 +29,7 @@ use Rattle.reader.proofs.Stages.{as_named}
 use Rattle.reader.proofs.Fitting.{fitting, name_of, fits_known, fits_long}
 use Rattle.writing.specs.Write.{entries, optional_of}
 use Rattle.writing.specs.Typed.{order_fields, delivery_fields, report_fields, order_bytes, delivery_bytes, report_bytes}
-use Rattle.roundtrip.specs.Demand2.{read_call, write_call, Tabled, ReadsBack, WritesBack, Demand2, OrderShaped, DeliveryShaped, ReportShaped, OrderReadsBack, DeliveryReadsBack, ReportReadsBack}
+use Rattle.roundtrip.specs.Demand2.{read_call, write_call, Tabled, ReadsBack, WritesBack, Demand2, OrderShaped, DeliveryShaped, ReportShaped, OrderReadsBack, DeliveryReadsBack, ReportReadsBack, TypedBack}
 use Rattle.roundtrip.proofs.Typed.{order_values, delivery_values, report_values, order_bytes_of, delivery_bytes_of, report_bytes_of}
 use Rattle.roundtrip.proofs.ReadExactly.{verdict_fits, reads_parts, read_exactly}
 use Rattle.roundtrip.proofs.WriteExactly.{write_exactly}
@@ -86,16 +84,16 @@ module _ (fixed table : List ℕ) (count : ℕ) (contents text : List ℕ) (b : 
       ap (all (belongs Allowed)) (sym b.same_fixed) ∙ all_take (belongs Allowed) (length fixed) text a
 
 -- the typed record that is read where a record fits
-order_read : (s : List ℕ) (n : ℕ) → judged_as (bytes "B101") s ≡ Ok n → read_order s ≡ record { checked = checked_of (Ok n); order = order_of s }
-unfolding read_order order_from
+order_read : (s : List ℕ) (n : ℕ) → judged_as (bytes "B101") s ≡ Ok n → read_order s ≡ record { checked = checked_of (Ok n); value = order_of s }
+unfolding read_order typed_from
 order_read s n e = rw e
 
-delivery_read : (s : List ℕ) (n : ℕ) → judged_as (bytes "L101") s ≡ Ok n → read_delivery s ≡ record { checked = checked_of (Ok n); delivery = delivery_of s }
-unfolding read_delivery delivery_from
+delivery_read : (s : List ℕ) (n : ℕ) → judged_as (bytes "L101") s ≡ Ok n → read_delivery s ≡ record { checked = checked_of (Ok n); value = delivery_of s }
+unfolding read_delivery typed_from
 delivery_read s n e = rw e
 
-report_read : (s : List ℕ) (n : ℕ) → judged_as (bytes "M101") s ≡ Ok n → read_report s ≡ record { checked = checked_of (Ok n); report = report_of s }
-unfolding read_report report_from
+report_read : (s : List ℕ) (n : ℕ) → judged_as (bytes "M101") s ≡ Ok n → read_report s ≡ record { checked = checked_of (Ok n); value = report_of s }
+unfolding read_report typed_from
 report_read s n e = rw e
 
 -- READ AFTER WRITE: what is written of a typed record answers 0 and gives the same typed record, the same number of optional fields, and the same IDs and contents in the same order
@@ -107,7 +105,7 @@ module _ (table : List ℕ) (count : ℕ) (contents out : List ℕ) where
       let f = in_front (order_bytes o) table count contents _ b in
       let a = named (bytes "B101") _ count (fits (order_bytes o) table count contents _ b) (ap (slice 0 4) f) in
       let v = ap order_of f ∙ order_values o _ h (fixed_allowed (order_bytes o) table count contents _ b) in
-      record { reads = order_read _ count a ∙ ap (λ (x : Order). record { checked = checked_of (Ok count); order = x }) v; fields = b.fields_are_same }
+      record { reads = order_read _ count a ∙ ap (λ (x : Order). record { checked = checked_of (Ok count); value = x }) v; fields = b.fields_are_same }
 
   pub delivery_reads_back : (d : Delivery) → DeliveryShaped d → (write_call (delivery_bytes d) table count contents out).said.answer ≡ 0 → DeliveryReadsBack d table count contents out
   unfolding delivery_bytes delivery_fields joined
@@ -116,7 +114,7 @@ module _ (table : List ℕ) (count : ℕ) (contents out : List ℕ) where
       let f = in_front (delivery_bytes d) table count contents _ b in
       let a = named (bytes "L101") _ count (fits (delivery_bytes d) table count contents _ b) (ap (slice 0 4) f) in
       let v = ap delivery_of f ∙ delivery_values d _ h (fixed_allowed (delivery_bytes d) table count contents _ b) in
-      record { reads = delivery_read _ count a ∙ ap (λ (x : Delivery). record { checked = checked_of (Ok count); delivery = x }) v; fields = b.fields_are_same }
+      record { reads = delivery_read _ count a ∙ ap (λ (x : Delivery). record { checked = checked_of (Ok count); value = x }) v; fields = b.fields_are_same }
 
   pub report_reads_back : (m : Report) → ReportShaped m → (write_call (report_bytes m) table count contents out).said.answer ≡ 0 → ReportReadsBack m table count contents out
   unfolding report_bytes report_fields joined
@@ -125,40 +123,30 @@ module _ (table : List ℕ) (count : ℕ) (contents out : List ℕ) where
       let f = in_front (report_bytes m) table count contents _ b in
       let a = named (bytes "M101") _ count (fits (report_bytes m) table count contents _ b) (ap (slice 0 4) f) in
       let v = ap report_of f ∙ report_values m _ h (fixed_allowed (report_bytes m) table count contents _ b) in
-      record { reads = report_read _ count a ∙ ap (λ (x : Report). record { checked = checked_of (Ok count); report = x }) v; fields = b.fields_are_same }
+      record { reads = report_read _ count a ∙ ap (λ (x : Report). record { checked = checked_of (Ok count); value = x }) v; fields = b.fields_are_same }
 
 -- a typed record is read with what its verdict says
-order_checked : (v : Verdict) (s : List ℕ) → (order_from v s).checked ≡ checked_of v
-unfolding order_from
-order_checked (Err r) s = refl
-order_checked (Ok n) s = refl
-
-delivery_checked : (v : Verdict) (s : List ℕ) → (delivery_from v s).checked ≡ checked_of v
-unfolding delivery_from
-delivery_checked (Err r) s = refl
-delivery_checked (Ok n) s = refl
-
-report_checked : (v : Verdict) (s : List ℕ) → (report_from v s).checked ≡ checked_of v
-unfolding report_from
-report_checked (Err r) s = refl
-report_checked (Ok n) s = refl
+typed_checked : {T : Type 0} (zeros : T) (values : List ℕ → T) (v : Verdict) (s : List ℕ) → (typed_from zeros values v s).checked ≡ checked_of v
+unfolding typed_from
+typed_checked zeros values (Err r) s = refl
+typed_checked zeros values (Ok n) s = refl
 
 -- WRITE AFTER READ: what was read of a record, written with the table that the check filled and the record itself as lent contents, answers 0 and gives the same bytes
 module _ (s table out : List ℕ) (c : (read_call s table).said.answer ≡ 0) (room : length s ≤ length out) where
-  pub order_writes_back : (read_order s).checked.answer ≡ 0 → WritesBack (order_bytes (read_order s).order) (read_call s table).table (read_call s table).said.fields s out
+  pub order_writes_back : (read_order s).checked.answer ≡ 0 → WritesBack (order_bytes (read_order s).value) (read_call s table).table (read_call s table).said.fields s out
   unfolding read_order kind_of same
   order_writes_back e =
-      let v = verdict_fits (judged_as (bytes "B101") s) (ap (λ (x : Checked). x.answer) (sym (order_checked (judged_as (bytes "B101") s) s)) ∙ e) in
-      let r = ap (λ (x : ReadOrder). x.order) (order_read s v.0 v.1) in
+      let v = verdict_fits (judged_as (bytes "B101") s) (ap (λ (x : Checked). x.answer) (sym (typed_checked no_order order_of (judged_as (bytes "B101") s) s)) ∙ e) in
+      let r = ap (λ (x : ReadAs Order). x.value) (order_read s v.0 v.1) in
       let f = ap order_bytes r ∙ order_bytes_of s v.0 v.1 in
       subst (λ (x : List ℕ). WritesBack x (read_call s table).table (read_call s table).said.fields s out) (sym f)
       (write_after_read order s table out (rw (name_of (bytes "B101") s v.0 v.1)) c room)
 
-  pub report_writes_back : (read_report s).checked.answer ≡ 0 → WritesBack (report_bytes (read_report s).report) (read_call s table).table (read_call s table).said.fields s out
+  pub report_writes_back : (read_report s).checked.answer ≡ 0 → WritesBack (report_bytes (read_report s).value) (read_call s table).table (read_call s table).said.fields s out
   unfolding read_report kind_of same
   report_writes_back e =
-      let v = verdict_fits (judged_as (bytes "M101") s) (ap (λ (x : Checked). x.answer) (sym (report_checked (judged_as (bytes "M101") s) s)) ∙ e) in
-      let r = ap (λ (x : ReadReport). x.report) (report_read s v.0 v.1) in
+      let v = verdict_fits (judged_as (bytes "M101") s) (ap (λ (x : Checked). x.answer) (sym (typed_checked no_report report_of (judged_as (bytes "M101") s) s)) ∙ e) in
+      let r = ap (λ (x : ReadAs Report). x.value) (report_read s v.0 v.1) in
       let f = ap report_bytes r ∙ report_bytes_of s v.0 v.1 in
       subst (λ (x : List ℕ). WritesBack x (read_call s table).table (read_call s table).said.fields s out) (sym f)
       (write_after_read report s table out (rw (name_of (bytes "M101") s v.0 v.1)) c room)
@@ -169,12 +157,22 @@ module _ (s table out : List ℕ) (c : (read_call s table).said.answer ≡ 0) (r
   either_way true = refl
   either_way false = refl
 
-  pub delivery_writes_back : (read_delivery s).checked.answer ≡ 0 → WritesBack (delivery_bytes (read_delivery s).delivery) (read_call s table).table (read_call s table).said.fields s out
+  pub delivery_writes_back : (read_delivery s).checked.answer ≡ 0 → WritesBack (delivery_bytes (read_delivery s).value) (read_call s table).table (read_call s table).said.fields s out
   unfolding read_delivery kind_of same
   delivery_writes_back e =
-      let v = verdict_fits (judged_as (bytes "L101") s) (ap (λ (x : Checked). x.answer) (sym (delivery_checked (judged_as (bytes "L101") s) s)) ∙ e) in
-      let r = ap (λ (x : ReadDelivery). x.delivery) (delivery_read s v.0 v.1) in
+      let v = verdict_fits (judged_as (bytes "L101") s) (ap (λ (x : Checked). x.answer) (sym (typed_checked no_delivery delivery_of (judged_as (bytes "L101") s) s)) ∙ e) in
+      let r = ap (λ (x : ReadAs Delivery). x.value) (delivery_read s v.0 v.1) in
       let b = of_class Zero day_width day_width (slice date_start (date_start + day_width) s) in
       let f = ap delivery_bytes r ∙ delivery_bytes_of s v.0 v.1 ∙ ap (λ (w : ℕ). take w s) (sym (either_way b)) in
       subst (λ (x : List ℕ). WritesBack x (read_call s table).table (read_call s table).said.fields s out) (sym f)
       (write_after_read (pick b closing goods) s table out (rw (name_of (bytes "L101") s v.0 v.1)) c room)
+
+pub typed_back : TypedBack
+typed_back = record {
+  order_reads_back = order_reads_back;
+  delivery_reads_back = delivery_reads_back;
+  report_reads_back = report_reads_back;
+  order_writes_back = order_writes_back;
+  delivery_writes_back = delivery_writes_back;
+  report_writes_back = report_writes_back;
+}

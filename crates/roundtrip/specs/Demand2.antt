@@ -1,4 +1,4 @@
--- Demand 2, the statements: exactly the records that `Record` lays down are read and written; read after write gives the fields, write after read the bytes.
+-- The statements: exactly the records that `Record` lays down are read and written; read after write gives the fields, write after read the bytes.
 use Rattle.std.specs.Prelude.{ℕ, ◌*◌, ◌≤◌, ◌≡◌, List, ◌++◌, length, take, drop, Ok, Some}
 use Rattle.record.specs.Layout.{most_fields, fixed_width, kind_of}
 use Rattle.record.specs.Answers.{checked_of}
@@ -18,7 +18,7 @@ use Rattle.roundtrip.specs.Record.{Parts, fixed_part, text_of, MakesRecord, IsRe
 abbrev pub written : Outcome → List ℕ
 written o = take o.said.length o.out
 
--- the two calls that the demand speaks of, as their contracts fix them: `reader::check` and `writer::write`
+-- the two calls that they speak of, as their contracts fix them: `reader::check` and `writer::write`
 abbrev pub read_call : List ℕ → List ℕ → Read
 read_call s lent = check s lent
 
@@ -64,7 +64,7 @@ abbrev pub WritesBack : List ℕ → List ℕ → ℕ → List ℕ → List ℕ 
 WritesBack fixed table n s out =
     write_call fixed table n s out ≡ outcome (record { answer = 0; place = 0; length = length s }) (s ++ drop (length s) out)
 
--- DEMAND 2, for all inputs
+-- ALL OF IT, for all inputs
 pub record Demand2 : Type 0 where
   -- reading answers 0 for the texts of records, where the table is large, and for nothing else
   pub read_exactly : (s lent : List ℕ) → ReadExactly s lent
@@ -114,15 +114,30 @@ pub record ReportShaped (m : Report) : Type 0 where
 
 -- what is written of a typed order reads back as it, with its optional fields
 pub record OrderReadsBack (o : Order) (table : List ℕ) (count : ℕ) (contents out : List ℕ) : Type 0 where
-  pub reads : read_order (written (write_call (order_bytes o) table count contents out)) ≡ record { checked = checked_of (Ok count); order = o }
+  pub reads : read_order (written (write_call (order_bytes o) table count contents out)) ≡ record { checked = checked_of (Ok count); value = o }
   pub fields : Tabled (written (write_call (order_bytes o) table count contents out)) (optional_of contents (entries count table))
 
 -- what is written of a typed delivery reads back as it, with its optional fields
 pub record DeliveryReadsBack (d : Delivery) (table : List ℕ) (count : ℕ) (contents out : List ℕ) : Type 0 where
-  pub reads : read_delivery (written (write_call (delivery_bytes d) table count contents out)) ≡ record { checked = checked_of (Ok count); delivery = d }
+  pub reads : read_delivery (written (write_call (delivery_bytes d) table count contents out)) ≡ record { checked = checked_of (Ok count); value = d }
   pub fields : Tabled (written (write_call (delivery_bytes d) table count contents out)) (optional_of contents (entries count table))
 
 -- what is written of a typed report reads back as it, with its optional fields
 pub record ReportReadsBack (m : Report) (table : List ℕ) (count : ℕ) (contents out : List ℕ) : Type 0 where
-  pub reads : read_report (written (write_call (report_bytes m) table count contents out)) ≡ record { checked = checked_of (Ok count); report = m }
+  pub reads : read_report (written (write_call (report_bytes m) table count contents out)) ≡ record { checked = checked_of (Ok count); value = m }
   pub fields : Tabled (written (write_call (report_bytes m) table count contents out)) (optional_of contents (entries count table))
+
+-- THE TYPED RECORDS, for all inputs: read after write gives the typed record, write after read of one gives the bytes
+pub record TypedBack : Type 0 where
+  pub order_reads_back : (table : List ℕ) (count : ℕ) (contents out : List ℕ) (o : Order) → OrderShaped o
+      → (write_call (order_bytes o) table count contents out).said.answer ≡ 0 → OrderReadsBack o table count contents out
+  pub delivery_reads_back : (table : List ℕ) (count : ℕ) (contents out : List ℕ) (d : Delivery) → DeliveryShaped d
+      → (write_call (delivery_bytes d) table count contents out).said.answer ≡ 0 → DeliveryReadsBack d table count contents out
+  pub report_reads_back : (table : List ℕ) (count : ℕ) (contents out : List ℕ) (m : Report) → ReportShaped m
+      → (write_call (report_bytes m) table count contents out).said.answer ≡ 0 → ReportReadsBack m table count contents out
+  pub order_writes_back : (s table out : List ℕ) → (read_call s table).said.answer ≡ 0 → length s ≤ length out → (read_order s).checked.answer ≡ 0
+      → WritesBack (order_bytes (read_order s).value) (read_call s table).table (read_call s table).said.fields s out
+  pub delivery_writes_back : (s table out : List ℕ) → (read_call s table).said.answer ≡ 0 → length s ≤ length out → (read_delivery s).checked.answer ≡ 0
+      → WritesBack (delivery_bytes (read_delivery s).value) (read_call s table).table (read_call s table).said.fields s out
+  pub report_writes_back : (s table out : List ℕ) → (read_call s table).said.answer ≡ 0 → length s ≤ length out → (read_report s).checked.answer ≡ 0
+      → WritesBack (report_bytes (read_report s).value) (read_call s table).table (read_call s table).said.fields s out

@@ -1,17 +1,13 @@
 -- Days, by the tests that the code makes.
-use mathlib.Core.Path.{◌≡◌, ◌∙◌, ap, sym, refl}
-use mathlib.Core.Bool.{true, ◌&&◌}
+use mathlib.Core.Path.{◌≡◌}
+use mathlib.Core.Bool.{true}
 use mathlib.Core.List.{List}
-use Prim.Native.Nat.{ℕ, zero, suc, ◌+◌, ◌/◌, ◌%◌, ◌≤◌}
-use native.Mathlib.Omega.{arith}
+use Prim.Native.Nat.{ℕ}
 use borrow.Author.Tests.{eq-eqb}
-use lib.ListN.{length, get_or}
-use lib.Seq.{slice, take_all}
-use Rattle.cells.specs.Bytes.{all}
-use Rattle.cells.proofs.Bools.{split, and_true}
-use Rattle.cells.proofs.Parts.{next, nothing}
-use Rattle.signs.specs.Class.{digit, belongs, all_of}
-use Rattle.rules.specs.Day.{day_width, month_lengths, day_of, real_day, is_day, dated, day_kept}
+use lib.ListN.{length}
+use Rattle.cells.proofs.Bools.{split}
+use Rattle.signs.specs.Class.{all_of}
+use Rattle.rules.specs.Day.{day_of, real_day, is_day, dated, day_kept}
 use Rattle.signs.specs.declared.Class.TheVariants.{Digit}
 use Rattle.rules.specs.declared.day.Day.{Day}
 use Rattle.std.specs.Prelude.{Some}
@@ -35,20 +31,3 @@ module _ (s : List ℕ) where
   pub real_day_law : (d : Day) → dated s ≡ Some d → is_day s ≡ true
   unfolding dated
   real_day_law d h = split (is_day s) (λ e. e) (λ e. let z = rw e at h in cc)
-
--- the months other than the second have 31 and 30 days in turn, the seventh and the eighth both 31
-pub long_month : (m : ℕ) → (m ≡ 2 → ⊥) → 1 ≤ m → m ≤ 12 → 30 + (m + m / 8) % 2 ≡ get_or month_lengths m 0
-long_month zero ne l h = absurd (omega arith)
-long_month (suc zero) ne l h = refl
-long_month (suc (suc zero)) ne l h = absurd (ne refl)
-long_month (suc (suc (suc zero))) ne l h = refl
-long_month (suc (suc (suc (suc zero)))) ne l h = refl
-long_month (suc (suc (suc (suc (suc zero))))) ne l h = refl
-long_month (suc (suc (suc (suc (suc (suc zero)))))) ne l h = refl
-long_month (suc (suc (suc (suc (suc (suc (suc zero))))))) ne l h = refl
-long_month (suc (suc (suc (suc (suc (suc (suc (suc zero)))))))) ne l h = refl
-long_month (suc (suc (suc (suc (suc (suc (suc (suc (suc zero))))))))) ne l h = refl
-long_month (suc (suc (suc (suc (suc (suc (suc (suc (suc (suc zero)))))))))) ne l h = refl
-long_month (suc (suc (suc (suc (suc (suc (suc (suc (suc (suc (suc zero))))))))))) ne l h = refl
-long_month (suc (suc (suc (suc (suc (suc (suc (suc (suc (suc (suc (suc zero)))))))))))) ne l h = refl
-long_month (suc (suc (suc (suc (suc (suc (suc (suc (suc (suc (suc (suc (suc m))))))))))))) ne l h = absurd (omega arith)

@@ -51,10 +51,14 @@ pub one_more : (i n d : ℕ) → n + 23 ≤ 23 * 10 ^ i → d ≤ 207 → n * 10
 one_more i n d h g = rw (add-one i, pow-suc 10 i) (omega arith)
 
 -- up to fifteen bytes spell a number of 64 bits
-pub fits64 : (i n : ℕ) → n + 23 ≤ 23 * 10 ^ i → i ≤ 15 → n < 2 ^ 64
+fits64 : (i n : ℕ) → n + 23 ≤ 23 * 10 ^ i → i ≤ 15 → n < 2 ^ 64
 fits64 i n h g =
     let p : 10 ^ i ≤ 10 ^ 15 = pow-le-pow_right (lit< tt) g in
     omega arith
+
+-- so one byte more of up to fifteen does
+pub more_fits : (i n d : ℕ) → n + 23 ≤ 23 * 10 ^ i → i < 15 → d ≤ 207 → n * 10 + d < 2 ^ 64
+more_fits i n d h l g = fits64 (i + 1) (n * 10 + d) (one_more i n d h g) (omega arith)
 
 -- the number that the bytes from place i on complete
 module _ (s : List ℕ) (i n : ℕ) where

@@ -4,9 +4,13 @@ use mathlib.Core.List.{List, [], ◌∷◌}
 use Prim.Native.Nat.{ℕ, ◌+◌, ◌*◌, ◌≤◌, ◌<◌}
 use native.Mathlib.Nat.{mul-le-mul}
 use native.Mathlib.Numerals.{add-one}
-use lib.ListN.{length, drop, get_or}
+use lib.ListN.{length, drop, get_or, drop_of_length-le}
 use lib.Seq.{drop-cons}
-use Rattle.rules.specs.Article.{check_value, weighted}
+use borrow.Author.Tests.{leb-true}
+use mathlib.Core.Bool.{true}
+use Rattle.cells.specs.Bytes.{all}
+use Rattle.signs.proofs.Runs.{all_at}
+use Rattle.rules.specs.Article.{low, check_value, weighted}
 
 -- what is left from i on is the term at i and what is left after it
 pub term : (ws s : List ℕ) (i : ℕ) → i < length ws → i < length s
@@ -15,11 +19,15 @@ unfolding weighted
 term ws s i h k = rw (drop-cons ws i 0 h, drop-cons s i 0 k, add-one i)
 
 -- nothing to weigh weighs nothing
-pub none_left : (ws : List ℕ) → weighted ws [] ≡ 0
+none_left : (ws : List ℕ) → weighted ws [] ≡ 0
 unfolding weighted
 none_left [] = refl
 none_left (w ∷ ws) = refl
 
+-- nothing is left past the last byte
+pub weighed : (ws s : List ℕ) (i : ℕ) → length s ≤ i → weighted (drop i ws) (drop i s) ≡ 0
+weighed ws s i h = rw (drop_of_length-le s h) (none_left (drop i ws))
+
 -- a term is at most its largest weight times its largest value
-pub small : (w v : ℕ) → w ≤ 10 → v ≤ 207 → w * v ≤ 2070
-small w v h g = mul-le-mul h g
+pub small_at : (ws : List ℕ) (i v : ℕ) → all low ws ≡ true → i < length ws → v ≤ 207 → get_or ws i 0 * v ≤ 2070
+small_at ws i v h l g = mul-le-mul (leb-true _ _ (all_at low ws i h l)) g

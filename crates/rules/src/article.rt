@@ -23,6 +23,7 @@ fn check_value(b: u8) -> u64
 }
 
 // The sum of the characters, each times its weight.
+#[tactic(auto, using(crate::proofs::Sums::term, crate::proofs::Sums::weighed, crate::proofs::Sums::small_at))]
 fn weighted_sum(weights: &[u64], s: &[u8]) -> u64
     requires { (length s.now ≤ length weights.now) × (length weights.now ≤ 13) × (all low weights.now ≡ true) }
     ensures { result ≡ weighted weights.now s.now }

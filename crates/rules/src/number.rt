@@ -25,6 +25,7 @@ pub fn pair_at(s: &[u8], at: usize) -> u64
 }
 
 // The number that at most fifteen digits spell.
+#[tactic(auto, using(crate::proofs::Digits::number_end))]
 pub fn number_of(s: &[u8]) -> u64
     requires { length s.now ≤ 15 }
     ensures { result ≡ number s.now }

@@ -68,9 +68,9 @@ fn show_report<W: Write>(out: &mut W, r: &Report) -> io::Result<()> {
 
 pub fn show_values<W: Write>(out: &mut W, s: &[u8]) -> io::Result<()> {
     match kind_of(s) {
-        Some(Kind::Order) => show_order(out, &read_order(s).order),
-        Some(Kind::Goods | Kind::Closing) => show_delivery(out, &read_delivery(s).delivery),
-        Some(Kind::Report) => show_report(out, &read_report(s).report),
+        Some(Kind::Order) => show_order(out, &read_order(s).value),
+        Some(Kind::Goods | Kind::Closing) => show_delivery(out, &read_delivery(s).value),
+        Some(Kind::Report) => show_report(out, &read_report(s).value),
         None => writeln!(out, "  unknown kind"),
     }
 }

@@ -2,7 +2,7 @@
 use mathlib.Core.Path.{◌≡◌}
 use mathlib.Core.List.{List, ◌++◌}
 use Prim.Native.Nat.{ℕ, ◌*◌, ◌≤◌, ◌<◌}
-use borrow.Author.Tests.{eq-eqb, ne_eqb, lt-ltb, le-ltb}
+use borrow.Author.Tests.{eq-eqb, lt-ltb, le-ltb}
 use lib.ListN.{length, drop}
 use Rattle.record.specs.Layout.{most_fields, layout, fixed_width, kind_of}
 use Rattle.record.specs.Read.{entry_width}
@@ -10,22 +10,12 @@ use Rattle.record.specs.declared.layout.Kind.{Kind}
 use Rattle.std.specs.Prelude.{Err, Ok, Some, None}
 use Rattle.writing.specs.Write.{◌next◌, first_faulty, fixed_judged, entries, optional_of, fields_judged, record_text, length_judged, rest_judged, write_judged, written_of, outcome, output_after, write}
 use Rattle.writing.specs.declared.answer.Refusal.{Refusal}
-use Rattle.writing.specs.declared.answer.Refusal.TheVariants.{FixedField, TooManyFields, SmallTable}
+use Rattle.writing.specs.declared.answer.Refusal.TheVariants.{TooManyFields, SmallTable}
 
--- 5, of a fixed part whose first field names a kind: by its length, then by its first faulty field
-module _ (k : Kind) (fixed : List ℕ) where
-  pub width_refused : (length fixed ≡ fixed_width k → ⊥) → fixed_judged (Some k) fixed ≡ Err (FixedField 0)
-  unfolding fixed_judged
-  width_refused h = rw (ne_eqb _ _ h)
-
-  module _ (h : length fixed ≡ fixed_width k) where
-    pub fault_refused : (first_faulty k fixed ≡ length (layout k) → ⊥) → fixed_judged (Some k) fixed ≡ Err (FixedField (first_faulty k fixed))
-    unfolding fixed_judged
-    fault_refused g = rw (eq-eqb _ _ h, ne_eqb _ _ g)
-
-    pub fixed_fits : first_faulty k fixed ≡ length (layout k) → fixed_judged (Some k) fixed ≡ Ok 0
-    unfolding fixed_judged
-    fixed_fits g = rw (eq-eqb _ _ h, eq-eqb _ _ g)
+-- 5, of a fixed part whose first field names a kind
+pub fixed_fits : (k : Kind) (fixed : List ℕ) → length fixed ≡ fixed_width k → first_faulty k fixed ≡ length (layout k) → fixed_judged (Some k) fixed ≡ Ok 0
+unfolding fixed_judged
+fixed_fits k fixed h g = rw (eq-eqb _ _ h, eq-eqb _ _ g)
 
 -- 8, 23, then 9 and 10, of a record of a known kind
 module _ (k : Kind) (fixed table : List ℕ) (count : ℕ) (contents out : List ℕ) where

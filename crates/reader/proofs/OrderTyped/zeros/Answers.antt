@@ -1,0 +1,22 @@
+-- `reader::OrderTyped::zeros` meets its contract: the derived zeros, field by field.
+use Rattle.reader.proofs.Zeros.{zero_bytes}
+use Rattle.reader.proofs.OrderTyped.zeros.Goals as goal
+
+pub returns : goal.returns
+returns c =
+    let sender = c.default.ensures.0 in
+    let recipient = c.default.ensures.1.0 in
+    let date = c.default.ensures.1.1.0 in
+    let reference = c.default.ensures.1.1.1.0 in
+    let article = c.default.ensures.1.1.1.1.0 in
+    let quantity = c.default.ensures.1.1.1.1.1.0 in
+    let measure = c.default.ensures.1.1.1.1.1.1 in
+    λ i. record {
+      sender = record { address = zero_bytes 10 _ sender.0 i; qualifier = zero_bytes 2 _ sender.1 i };
+      recipient = record { address = zero_bytes 10 _ recipient.0 i; qualifier = zero_bytes 2 _ recipient.1 i };
+      date = record { year = date.0 i; month = date.1.0 i; day = date.1.1 i };
+      reference = zero_bytes 10 _ reference i;
+      article = record { number = zero_bytes 13 _ article.0 i; qualifier = zero_bytes 2 _ article.1 i };
+      quantity = record { 0 = quantity i };
+      measure = zero_bytes 2 _ measure i;
+    }
