@@ -75,6 +75,7 @@ fn take_parts(fields: InsideFields, room: &mut [u8]) -> Verdict
 }
 
 // The answer, its place and the number of parts, which stand in the room; a refusal leaves the room as it was.
+#[tactic(auto, using(crate::proofs::Bundles::small_room))]
 pub fn read_parts(s: &[u8], room: &mut [u8]) -> PartsRead
     ensures { outcome result room.new ≡ read_parts s.now room.old }
 {
