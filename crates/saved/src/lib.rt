@@ -17,7 +17,7 @@ use save::form::{Form, KIND_BYTE};
 use save::lines::Lines;
 use save::slips::{SAVED_SLIP_WIDTH, Slips};
 use save::valid::ValidSave;
-use stored::{MOST_ARRIVED, SLIP_COPIES_AT, SLIP_KEY_WIDTH};
+use stored::MOST_ARRIVED;
 
 // The end: a byte of kind, then the used lines and the used slips.
 const COUNT_WIDTH: usize = 2;
@@ -34,14 +34,14 @@ pub const SLIP_KIND: u8 = 2;
 pub const END_KIND: u8 = 0;
 
 // The copies of a slip where it names the line at i, else none.
-#[tactic(auto, unfolding(save::specs::Entries::copies_on, save::specs::Entries::line_index, save::specs::Entries::slip_copies))]
+#[tactic(auto, unfolding(save::specs::Entries::copies_on))]
 fn copies_on(slips: Slips, j: usize, i: usize) -> Copies
     requires { j < slips.count }
     ensures { (result ≡ copies (copies_on (slip_in slips.entry.bytes.now slips.entry.at) i j)) × (result.0 < 65536) }
 {
     let slip = slips.body(j);
-    if get::<2>(slip, SLIP_KEY_WIDTH) as usize == i {
-        return Copies(get::<2>(slip, SLIP_COPIES_AT));
+    if slip.line() == i {
+        return Copies(slip.copies());
     }
     Copies(0)
 }
