@@ -1,6 +1,5 @@
 -- Where a record that fits is entered, there is room.
 use mathlib.Core.Path.{◌≡◌}
-use mathlib.Core.Bool.{true}
 use mathlib.Core.List.{List}
 use Prim.Native.Nat.{ℕ, ◌+◌, ◌*◌, ◌≤◌, ◌<◌}
 use native.Mathlib.Omega.{arith}
@@ -12,8 +11,8 @@ use Rattle.record.specs.declared.layout.Kind.{Kind}
 use Rattle.record.specs.declared.layout.Kind.TheVariants.{Order, Goods, Closing, Report}
 use Rattle.reader.proofs.Fitting.{Fitting, fitting, fits_wide}
 use Rattle.entry.specs.Stored.{line_width, slip_width, most_copies, most_arrived, line_at}
-use Rattle.book.specs.Lent.{Lent, used_lines, used_slips, sound}
-use Rattle.book.specs.Booking.{line_key, copies_in, fit_judged}
+use Rattle.book.specs.Lent.{Lent, used_lines, used_slips}
+use Rattle.book.specs.Booking.{line_key, copies_in}
 use Rattle.book.proofs.Fields.{order_copies, goods_copies}
 use Rattle.book.proofs.Sounds.{sound_so}
 use Rattle.book.proofs.Finds.{line_stands}

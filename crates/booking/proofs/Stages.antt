@@ -7,19 +7,15 @@ use native.Mathlib.Omega.{arith}
 use borrow.Author.Tests.{ltb-true, leb-true}
 use lib.Dec.{ltb, leb, eqb}
 use Rattle.cells.specs.Bytes.{pick}
-use Rattle.cells.proofs.Bools.{and_right}
-use Rattle.roster.specs.Roster.{roster_sound, standing}
+use Rattle.roster.specs.Roster.{standing}
 use Rattle.std.specs.Prelude.{Err, None, Ok, Option, Some}
-use Rattle.record.specs.Layout.{kind_of}
-use Rattle.record.specs.Read.{judged}
-use Rattle.record.specs.declared.answer.Refusal.{Refusal}
 use Rattle.record.specs.declared.layout.Kind.{Kind}
 use Rattle.record.specs.declared.layout.Kind.TheVariants.{Order, Goods, Closing, Report}
 use Rattle.entry.specs.Stored.{most_arrived, line_at, key_is, slip_line_at, slip_copies_at}
 use Rattle.book.specs.Lent.{Lent, used_lines, used_slips, line_room, slip_room, sound, find_line, find_slip, open_copies}
-use Rattle.book.specs.Booking.{line_key, slip_key, school_in, copies_in, nothing_to_book, no_copies, no_reference, new_line_judged, order_judged, slip_judged, arrival_judged, goods_judged, delivery_judged, report_judged, book_judged, on_roster, fit_judged, outcome, not_booked, entered_as, settled, book_as, book_kind, book_read, book}
+use Rattle.book.specs.Booking.{line_key, slip_key, school_in, copies_in, nothing_to_book, no_copies, no_reference, new_line_judged, order_judged, slip_judged, arrival_judged, goods_judged, delivery_judged, report_judged, book_judged, on_roster, fit_judged, outcome, not_booked, settled, book_as}
 use Rattle.book.specs.declared.answer.Refused.{Refused}
-use Rattle.book.specs.declared.answer.Refused.TheVariants.{Unsound, Unread, NothingToBook, NoCopies, NoReference, SlipBooked, SlipDiffers}
+use Rattle.book.specs.declared.answer.Refused.TheVariants.{NothingToBook, NoCopies, NoReference, SlipBooked, SlipDiffers}
 use Rattle.book.specs.Verdicts.{Verdict}
 use Rattle.booking.specs.Fits.{Fits}
 

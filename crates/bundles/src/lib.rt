@@ -7,5 +7,4 @@ ghost use Rattle.bundles.specs.Demand2.{PartsDemand2};
 #[tactic(auto, using(crate::proofs::Demand2::parts_demand2))]
 pub fn parts_demand_2()
     ensures { PartsDemand2 }
-{
-}
+{}

@@ -1,7 +1,7 @@
 -- What entering a record is told of its fields.
 use mathlib.Core.Path.{◌≡◌, ◌∙◌, ap, refl}
 use mathlib.Core.List.{List, [], ◌∷◌, ◌++◌}
-use Prim.Native.Nat.{ℕ, ◌+◌, ◌≤◌}
+use Prim.Native.Nat.{ℕ, ◌≤◌}
 use native.Mathlib.Omega.{arith}
 use borrow.Author.Tests.{ne_eqb}
 use lib.ListN.{length, get_or}
@@ -12,11 +12,12 @@ use Rattle.rules.specs.Day.{day_width}
 use Rattle.rules.specs.Number.{number}
 use Rattle.record.specs.Layout.{layout, total, start_of, fixed_width}
 use Rattle.record.specs.Values.{field_bytes}
-use Rattle.record.specs.declared.layout.Kind.TheVariants.{Report}
+use Rattle.record.specs.declared.layout.Kind.TheVariants.{Order, Report}
+use Rattle.entry.specs.Stored.{ordered_at}
 use Rattle.entry.specs.declared.report.Message.TheVariants.{Numbered}
 use Rattle.entry.specs.declared.line.Mark.TheVariants.{Held, Dropped}
 use Rattle.book.specs.Booking.{mark_in, message_in, date_in}
-use Rattle.book.proofs.Fields.{slip_key_long}
+use Rattle.book.proofs.Fields.{order_named_long, slip_key_long}
 use Rattle.naming.proofs.Named.{order_parts}
 use Rattle.values.proofs.Places.{report_width}
 
@@ -48,4 +49,8 @@ date_is s = refl
 pub date_long : (s : List ℕ) → fixed_width Report ≤ length s → length (slice 67 75 s) ≡ day_width
 date_long s h = length-slice 67 75 s (omega (arith, report_width))
 
-pub ruleset told = (mark_held, mark_dropped, message_is, date_is, date_long, report_width, slip_key_long, order_parts)
+-- what a new line is named by, in two parts, is whole
+pub named_long : (s : List ℕ) → fixed_width Order ≤ length s → length (slice 4 28 s ++ slice 36 61 s) ≡ ordered_at
+named_long s h = rw (order_parts s) (order_named_long s h)
+
+pub ruleset told = (mark_held, mark_dropped, message_is, date_is, date_long, report_width, slip_key_long, order_parts, named_long)

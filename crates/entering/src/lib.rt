@@ -29,6 +29,9 @@ use stored::write::{write_arrived, write_new_line, write_report, write_slip};
 // The mark that holds an order open.
 const LETTER_J: u8 = 74;
 
+// The digits of a message number.
+const MESSAGE_WIDTH: usize = 3;
+
 // A new line: nothing has arrived, and no report has come.
 #[tactic(auto, unfolding(entry::specs::Line::new_line))]
 fn new_line(copies: Copies) -> Line
@@ -56,10 +59,10 @@ fn mark_in(report: &ReadRecord<Report>) -> Mark
 
 // The message number of a report.
 #[tactic(auto, using(crate::proofs::Entered::told))]
-fn message_in(s: &[u8]) -> Message
-    ensures { result ≡ message_in s.now }
+fn message_in(report: &ReadRecord<Report>) -> Message
+    ensures { result ≡ message_in report.now.bytes.now }
 {
-    Message::Numbered(number_of(part(s, MESSAGE, HOLD)))
+    Message::Numbered(number_of(&bytes_at::<MESSAGE_WIDTH>(report.bytes, MESSAGE)))
 }
 
 // An accepted order adds a line.
@@ -105,7 +108,7 @@ pub fn enter_report(report: &ReadRecord<Report>, book: &mut Book, i: usize) -> B
 {
     let same_article = book.agreed(i, Report::article(report.bytes));
     let mark = mark_in(report);
-    let message = message_in(report.bytes);
+    let message = message_in(report);
     let date = bytes_at(report.bytes, EXPECTED);
     let l = book.line(i).with_report(mark, message, expected_date(date));
     write_report(book.lines, i, mark, message, date);

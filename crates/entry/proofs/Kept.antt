@@ -7,6 +7,7 @@ use Prim.Native.Nat.{ℕ, ◌+◌, ◌*◌, ◌≤◌, ◌<◌}
 use native.Mathlib.Nat.{add-zero, add_assoc}
 use native.Mathlib.Decide.{dec_le}
 use native.Mathlib.Omega.{arith}
+use lib.Dec.{eqb}
 use lib.ListN.{length, get_or, take, drop, set, length-set, length-append}
 use lib.Seq.{slice, sets, length-slice, length-sets, take_all, take_at, drop_at}
 use Rattle.cells.specs.Little.{le_at, le_bytes}
@@ -17,6 +18,7 @@ use Rattle.cells.proofs.Stores.{sets_before, sets_after, sets_in, sets_part, set
 use borrow.Author.Tests.{ne_eqb}
 use Rattle.cells.specs.Bytes.{all, same}
 use Rattle.signs.specs.Class.{all_of, belongs, of_class}
+use Rattle.signs.specs.declared.Class.{Class}
 use Rattle.signs.specs.declared.Class.TheVariants.{Blank, Zero}
 use Rattle.std.specs.Prelude.{replicate}
 use Rattle.rules.specs.Day.{day_width, is_day, dated}
@@ -257,24 +259,24 @@ pub blank_date_law : expected_of blank_date ≡ Blanks
 unfolding expected_of dated is_day all_of all belongs
 blank_date_law = refl
 
--- all bytes are zeros, or blanks, just where the list is that of as many
-all_zeros : (s : List ℕ) → all_of Zero s ≡ same s (replicate (length s) 48)
-unfolding all_of all belongs same
-all_zeros [] = refl
-all_zeros (x ∷ xs) = rw (← all_zeros xs) refl
+-- where one byte alone is of a class, a date is of that class just where it is that byte all through
+all_of_one : (c : Class) (b : ℕ) → ((x : ℕ) → belongs c x ≡ eqb x b) → (s : List ℕ) → all_of c s ≡ same s (replicate (length s) b)
+unfolding all_of all same
+all_of_one c b h [] = refl
+all_of_one c b h (x ∷ xs) = grind (arith, h x, all_of_one c b h xs)
 
-all_blanks : (s : List ℕ) → all_of Blank s ≡ same s (replicate (length s) 32)
-unfolding all_of all belongs same
-all_blanks [] = refl
-all_blanks (x ∷ xs) = rw (← all_blanks xs) refl
+dated_by : (c : Class) (b : ℕ) → ((x : ℕ) → belongs c x ≡ eqb x b) → (s : List ℕ) → length s ≡ day_width
+    → of_class c day_width day_width s ≡ same s (replicate day_width b)
+unfolding of_class
+dated_by c b h s e = rw (all_of_one c b h s, e) refl
 
 pub zero_dated : (s : List ℕ) → length s ≡ day_width → of_class Zero day_width day_width s ≡ same s (replicate day_width 48)
-unfolding of_class
-zero_dated s e = rw (all_zeros s, e) refl
+unfolding belongs
+zero_dated = dated_by Zero 48 (λ x. refl)
 
 pub blanks_dated : (s : List ℕ) → length s ≡ day_width → of_class Blank day_width day_width s ≡ same s blank_date
-unfolding of_class
-blanks_dated s e = rw (all_blanks s, e) refl
+unfolding belongs
+blanks_dated = dated_by Blank 32 (λ x. refl)
 
 pub blank_dated : (date : List ℕ) → same date blank_date ≡ true → expected_of date ≡ Blanks
 blank_dated date e = rw (same_true date blank_date e) blank_date_law

@@ -47,6 +47,6 @@ pub fn take_slips(from: Slips, slips: &mut [u8])
     ensures { slips.new ≡ sets slips.old 0 (joined_from (slip_in from.entry.bytes.now from.entry.at) from.entry.count 0) }
 {
     for j in 0..from.count {
-        paste_at(slips, SLIP_WIDTH * j, from.body(j));
+        paste_at(slips, SLIP_WIDTH * j, from.body(j).bytes);
     }
 }

@@ -1,15 +1,19 @@
 // An entry of a saved book, judged by its body.
 #![tactic(auto)]
 
-ghost use Rattle.std.specs.Prelude.{◌≡◌, [], ◌∷◌, eqb, length};
+pub mod lines;
+
+ghost use Rattle.std.specs.Prelude.{◌≡◌, [], ◌∷◌, eqb};
 ghost use Rattle.signs.specs.Class.{all_of};
 ghost use Rattle.signs.specs.declared.Class.TheVariants.{Allowed};
-ghost use Rattle.save.specs.Entries.{reference_at, slip_number_at, line_fields, goods_fields, fields_kept, report_kept, line_kept, parties_agree, slip_kept};
+ghost use Rattle.save.specs.Entries.{reference_at, line_fields, goods_fields, fields_kept, report_kept, line_kept, parties_agree, slip_named, slip_kept};
 ghost use Rattle.save.specs.Form.{front_of};
-ghost use Rattle.save.specs.Saved.{slip_body_width, line_in};
+ghost use Rattle.save.specs.Saved.{line_in};
+ghost use Rattle.cells.specs.Bytes.{within};
+ghost use Rattle.entry.specs.Stored.{most_copies};
 ghost use Rattle.record.specs.Layout.{first_broken};
-ghost use Rattle.book.specs.Booking.{slip_fields};
 
+use crate::lines::KeptLines;
 use cells::little::get;
 use cells::{bytes_at, part, same};
 use entry::key::{
@@ -20,11 +24,10 @@ use entry::report::{MOST_MARK, is_report_sound};
 use rules::article::is_article;
 use rules::rule::{Texts, is_day, is_one_of};
 use save::form::Form;
-use save::lines::{LineBody, Lines};
+use save::lines::LineBody;
+use save::slips::SlipBody;
 use signs::{Class, all_of, allowed_run, is_named, is_padded, of_class};
-use stored::{
-    EXPECTED_AT, MARK_AT, MESSAGE_AT, MOST_COPIES, ORDERED_AT, SLIP_COPIES_AT, SLIP_KEY_WIDTH,
-};
+use stored::{EXPECTED_AT, MARK_AT, MESSAGE_AT, MOST_COPIES, ORDERED_AT, SLIP_KEY_WIDTH};
 
 const POSITION_WIDTH: usize = 4;
 
@@ -70,15 +73,12 @@ fn is_line_named(named: &[u8]) -> bool
         & !all_of(Class::Blank, reference)
 }
 
-// Whether a slip's key keeps the rules: its parties, its date, its slip number, which is not blank, and its position.
-#[tactic(auto, using(save::proofs::Keys::slip_judged_law, save::proofs::Keys::parties_judged))]
-fn is_slip_key(key: &[u8]) -> bool
-    ensures { result ≡ fields_kept slip_fields slip_number_at key.now }
+// Whether what a slip is named by besides its parties keeps the rules: its date, its slip number, which is not blank, and its position.
+#[tactic(auto, unfolding(save::specs::Entries::slip_named))]
+fn is_slip_named(key: &[u8]) -> bool
+    ensures { result ≡ slip_named key.now }
 {
     if !are_allowed(key) {
-        return false;
-    }
-    if !are_parties(key) {
         return false;
     }
     let date = part(key, DATE_AT, SLIP_NUMBER_AT);
@@ -88,6 +88,13 @@ fn is_slip_key(key: &[u8]) -> bool
         & (is_named(Class::Any, slip_number)
             & of_class(Class::Digit, POSITION_WIDTH, POSITION_WIDTH, position)))
         & !all_of(Class::Blank, slip_number)
+}
+
+// Whether so many copies may be ordered, or come by one slip.
+fn is_quantity(copies: u64) -> bool
+    ensures { result ≡ within 1 most_copies copies }
+{
+    (1 <= copies) & (copies <= MOST_COPIES)
 }
 
 // Whether mark, message and expected date of a line go together; in the old form there is the mark alone.
@@ -117,8 +124,7 @@ pub fn is_line_kept(line: LineBody) -> bool
     if !is_line_named(part(line.bytes, 0, ORDERED_AT)) {
         return false;
     }
-    let ordered = get::<2>(line.bytes, ORDERED_AT);
-    ((1 <= ordered) & (ordered <= MOST_COPIES)) & is_report_kept(line)
+    is_quantity(get::<2>(line.bytes, ORDERED_AT)) & is_report_kept(line)
 }
 
 // Whether a slip has the school and the supplier of a line.
@@ -135,22 +141,21 @@ fn do_parties_agree(slip: &[u8], line: &[u8]) -> bool
     )
 }
 
-// Whether a slip of a save keeps the rules, by the lines of it.
-#[tactic(auto, unfolding(save::specs::Entries::slip_kept, save::specs::Entries::slip_copies, save::specs::Entries::line_index, save::specs::Saved::line_in), using(save::proofs::Fronts::front_parties))]
-pub fn is_slip_kept(lines: Lines, slip: &[u8]) -> bool
-    requires { length slip.now ≡ slip_body_width }
-    ensures { result ≡ slip_kept lines.entry.count (line_in lines.entry.form lines.entry.bytes.now) slip.now }
+// Whether a slip of a save keeps the rules, by the lines of it: its parties are its line's, which were judged, so they are only compared.
+#[tactic(auto, unfolding(save::specs::Saved::line_in), using(save::proofs::Keys::slip_kept_by, save::proofs::Fronts::front_parties))]
+pub fn is_slip_kept(kept: KeptLines, slip: SlipBody) -> bool
+    ensures { result ≡ slip_kept kept.entry.lines.count (line_in kept.entry.lines.form kept.entry.lines.bytes.now) slip.entry.bytes.now }
 {
-    if !is_slip_key(part(slip, 0, SLIP_KEY_WIDTH)) {
+    let lines = kept.lines;
+    if !is_slip_named(part(slip.bytes, 0, SLIP_KEY_WIDTH)) {
         return false;
     }
-    let copies = get::<2>(slip, SLIP_COPIES_AT);
-    if !((1 <= copies) & (copies <= MOST_COPIES)) {
+    if !is_quantity(slip.copies()) {
         return false;
     }
-    let i = get::<2>(slip, SLIP_KEY_WIDTH) as usize;
+    let i = slip.line();
     if lines.count <= i {
         return false;
     }
-    do_parties_agree(slip, lines.body(i).bytes)
+    do_parties_agree(slip.bytes, lines.body(i).bytes)
 }

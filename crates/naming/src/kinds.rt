@@ -1,4 +1,6 @@
 // The kinds of records that are booked, and where each names what the book asks for.
+#![tactic(auto, unfolding(record::specs::Layout::fixed_width, record::specs::Layout::total, record::specs::Layout::layout, record::specs::Layout::start_of, record::specs::Values::field_bytes, book::specs::Booking::key_fields, book::specs::Booking::no_reference, book::specs::Booking::copies_in), using(crate::proofs::Named::named))]
+
 ghost use Rattle.std.specs.Prelude.{◌≡◌, [], ◌∷◌, ◌+◌, ◌≤◌, length};
 ghost use Rattle.std.proofs.Math.Seq.{slice};
 ghost use Rattle.record.specs.declared.layout.Kind.{Kind};
@@ -6,16 +8,19 @@ ghost use Rattle.record.specs.Layout.{fixed_width};
 ghost use Rattle.entry.specs.Keyed.{fields_of};
 ghost use Rattle.book.specs.Booking.{key_fields, fields_in, copies_in, school_in, article_in, no_reference, slip_key};
 
-use cells::part;
+use cells::{bytes_at, part};
 use entry::key::{ADDRESS_WIDTH, QUALIFIER_WIDTH, REFERENCE_WIDTH};
 use entry::line_key::LineKey;
 use record::layout::Kind;
 use record::places::{
-    ARTICLE, MESSAGE, ORDER_ARTICLE, ORDER_MEASURE, ORDER_QUANTITY, ORDER_REFERENCE, PARTIES_END,
-    PRICE, QUANTITY, RECIPIENT, REFERENCE, REPORT_ARTICLE, REPORT_REFERENCE, SENDER,
+    ARTICLE, MESSAGE, ORDER_ARTICLE, ORDER_QUANTITY, ORDER_REFERENCE, PARTIES_END, QUANTITY,
+    RECIPIENT, REFERENCE, REPORT_ARTICLE, REPORT_REFERENCE, SENDER,
 };
 use rules::amount::{Copies, amount_of};
 use signs::{Class, all_of};
+
+// The digits of a quantity.
+const QUANTITY_WIDTH: usize = 4;
 
 // What the book asks of the bytes of a record of a kind.
 pub trait Bookable {
@@ -36,6 +41,7 @@ pub trait Bookable {
 
     // The quantity of an order or a delivery; none of a report.
     fn copies(bytes: &[u8]) -> Copies
+        requires { fixed_width kind ≤ length bytes.now }
         ensures { result ≡ copies_in kind bytes.now };
 
     // Whether its reference is blank.
@@ -73,7 +79,6 @@ fn key_at(s: &[u8], school: usize, supplier: usize, reference: usize) -> LineKey
 }
 
 // An order's school is its sender.
-#[tactic(auto, unfolding(record::specs::Layout::fixed_width, record::specs::Layout::total, record::specs::Layout::layout, record::specs::Layout::start_of, record::specs::Values::field_bytes, book::specs::Booking::key_fields, book::specs::Booking::no_reference, book::specs::Booking::copies_in), using(crate::proofs::Named::named))]
 impl Bookable for Order {
     ghost kind = { Kind.Order };
 
@@ -90,7 +95,7 @@ impl Bookable for Order {
     }
 
     fn copies(bytes: &[u8]) -> Copies {
-        amount_of::<Copies>(part(bytes, ORDER_QUANTITY, ORDER_MEASURE))
+        amount_of(&bytes_at::<QUANTITY_WIDTH>(bytes, ORDER_QUANTITY))
     }
 
     fn has_no_reference(bytes: &[u8]) -> bool {
@@ -99,7 +104,6 @@ impl Bookable for Order {
 }
 
 // A delivery's school is its recipient.
-#[tactic(auto, unfolding(record::specs::Layout::fixed_width, record::specs::Layout::total, record::specs::Layout::layout, record::specs::Layout::start_of, record::specs::Values::field_bytes, book::specs::Booking::key_fields, book::specs::Booking::no_reference, book::specs::Booking::copies_in), using(crate::proofs::Named::named))]
 impl Bookable for Goods {
     ghost kind = { Kind.Goods };
 
@@ -116,7 +120,7 @@ impl Bookable for Goods {
     }
 
     fn copies(bytes: &[u8]) -> Copies {
-        amount_of::<Copies>(part(bytes, QUANTITY, PRICE))
+        amount_of(&bytes_at::<QUANTITY_WIDTH>(bytes, QUANTITY))
     }
 
     fn has_no_reference(bytes: &[u8]) -> bool {
@@ -125,7 +129,6 @@ impl Bookable for Goods {
 }
 
 // So is a report's.
-#[tactic(auto, unfolding(record::specs::Layout::fixed_width, record::specs::Layout::total, record::specs::Layout::layout, record::specs::Layout::start_of, record::specs::Values::field_bytes, book::specs::Booking::key_fields, book::specs::Booking::no_reference, book::specs::Booking::copies_in), using(crate::proofs::Named::named))]
 impl Bookable for Report {
     ghost kind = { Kind.Report };
 

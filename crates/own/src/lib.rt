@@ -57,5 +57,4 @@ pub fn book_own(s: &[u8], lines: &mut [u8], slips: &mut [u8], used: &mut [usize;
 #[tactic(auto, using(crate::proofs::Own::never_in_the_way))]
 pub fn never_in_the_way()
     ensures { NeverInTheWay }
-{
-}
+{}

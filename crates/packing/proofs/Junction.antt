@@ -9,7 +9,7 @@ use native.Mathlib.Omega.{arith}
 use borrow.Author.Tests.{eqb-true, eqb-false, ne_eqb, not-true}
 use lib.Dec.{eqb}
 use lib.ListN.{length}
-use Rattle.cells.proofs.Bools.{split, and_left, and_right, or_false}
+use Rattle.cells.proofs.Bools.{split, and_left, and_right}
 use Rattle.record.specs.Contents.{is_in, groups, first_of, next_in, previous_in, group_with, next_member, previous_member, is_wanted, group_kept}
 use Rattle.record.specs.Fields.{last_id, Optional}
 use Rattle.record.specs.declared.layout.Kind.{Kind}

@@ -1,7 +1,7 @@
 -- Bytes in front of an array of zeros.
 use mathlib.Core.Path.{◌≡◌, ◌∙◌}
 use mathlib.Core.List.{List, ◌++◌, append-nil}
-use Prim.Native.Nat.{ℕ, ◌-◌, ◌≤◌, min}
+use Prim.Native.Nat.{ℕ, ◌-◌, min}
 use native.Mathlib.Omega.{arith}
 use Rattle.std.proofs.lemmas.List.{take_min, drop-replicate}
 use lib.ListN.{length, take, drop, replicate, length-take, length-append, length-replicate}

@@ -31,10 +31,6 @@ module _ (s : List ℕ) (at : ℕ) (h : at + price_width ≤ length s) where
 
 -- of a part
 module _ (s : List ℕ) (at : ℕ) (h : at + part_width ≤ length s) where
-  -- the tax mark
-  pub tax_is : get_or s at 0 ∷ [] ≡ slice at (at + 1) s
-  tax_is = rw (next s at (at + 1) (omega arith) (omega arith), nothing (at + 1) (at + 1) s (omega arith))
-
   -- the article, where it is not too long
   pub article_stands : get_or s (at + length_at) 0 ≤ article_width
       → article_text (lent_article s at) ≡ slice (at + article_at) (at + article_at + get_or s (at + length_at) 0) s

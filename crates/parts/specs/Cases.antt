@@ -16,7 +16,7 @@ use Rattle.parts.specs.declared.part.Part.{Part}
 abbrev lent : ℕ
 lent = 7
 
--- the bundles of 001 (section 3.2, example C) and 004 (section 4.3.2), with blanks restored
+-- the bundles of both wholesalers' own examples, with blanks restored
 abbrev loops_text : String
 loops_text = "*10191*1029126200*1030NO*1032EUR*1029180000*1030LP*1032EUR*11019783131464712-1*1102VB*1151PHY*10192*102931400*1030NO*1032EUR*102949900*1030LP*1032EUR*11019783131464712-2*1102VB*1151DIG*9999"
 

@@ -21,11 +21,15 @@ pub const LOOP_FIELDS: usize = 10;
 pub const PART_ID: usize = 1019;
 // A price.
 pub const AMOUNT_ID: usize = 1029;
+
 pub const PRICE_QUALIFIER_ID: usize = 1030;
+
 pub const CURRENCY_ID: usize = 1032;
 // The article, its qualifier, and the medium.
 pub const ARTICLE_ID: usize = 1101;
+
 pub const ARTICLE_QUALIFIER_ID: usize = 1102;
+
 pub const MEDIUM_ID: usize = 1151;
 // The most parts of a bundle.
 pub const MOST_PARTS: usize = 8;

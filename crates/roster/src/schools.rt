@@ -42,21 +42,30 @@ impl From<Refused> for u64 {
     }
 }
 
-// Whether a school has an account.
-#[tactic(auto, unfolding(crate::specs::Schools::is_of))]
-fn is_of(school: &School, address: &[u8], qualifier: &[u8]) -> bool
-    ensures { result ≡ is_of school.now address.now qualifier.now }
-{
-    same_by(&school.address, address, 0) && same(&school.qualifier, qualifier)
+// An account, as a record names it.
+#[derive(Clone, Copy, PartialEq, Eq, Debug)]
+pub struct Account<'a> {
+    pub address: &'a [u8],
+    pub qualifier: &'a [u8],
+}
+
+impl School {
+    // Whether a school has an account.
+    #[tactic(auto, unfolding(crate::specs::Schools::is_of))]
+    fn has(&self, account: Account) -> bool
+        ensures { result ≡ is_of self.now account.entry.address.now account.entry.qualifier.now }
+    {
+        same_by(&self.address, account.address, 0) && same(&self.qualifier, account.qualifier)
+    }
 }
 
 // The index of the first school with an account.
 #[tactic(auto, unfolding(crate::specs::Schools::find_school, crate::specs::Schools::is_account), using(cells::proofs::Searches::first_here, cells::proofs::Searches::first_next, cells::proofs::Searches::first_end))]
-pub fn find_school(schools: &[School], address: &[u8], qualifier: &[u8]) -> Option<usize>
-    ensures { result ≡ find_school schools.now address.now qualifier.now }
+pub fn find_school(schools: &[School], account: Account) -> Option<usize>
+    ensures { result ≡ find_school schools.now account.entry.address.now account.entry.qualifier.now }
 {
     for (i, school) in schools.iter().enumerate() {
-        if is_of(school, address, qualifier) {
+        if school.has(account) {
             return Some(i);
         }
     }
@@ -68,22 +77,18 @@ pub fn find_school(schools: &[School], address: &[u8], qualifier: &[u8]) -> Opti
 pub fn ceiling_of(schools: &[School], i: usize) -> u32
     ensures { result ≡ ceiling_of schools.now i }
 {
-    if i < schools.len() {
-        schools[i].ceiling
-    } else {
-        0
-    }
+    schools.get(i).map_or(0, |school| school.ceiling)
 }
 
 // What the schools say of an account: its ceiling, or why there is none.
 #[tactic(auto, unfolding(crate::specs::Schools::said, crate::specs::Schools::standing_of, crate::specs::Schools::standing_among))]
-pub fn said(schools: &[School], address: &[u8], qualifier: &[u8]) -> Result<u64, Refused>
-    ensures { result ≡ said (length schools.now) (standing_of schools.now address.now qualifier.now) }
+pub fn said(schools: &[School], account: Account) -> Result<u64, Refused>
+    ensures { result ≡ said (length schools.now) (standing_of schools.now account.entry.address.now account.entry.qualifier.now) }
 {
     if MOST_SCHOOLS < schools.len() {
         return Err(Refused::WrongRoom);
     }
-    let i = find_school(schools, address, qualifier).ok_or(Refused::NotOnRoster)?;
+    let i = find_school(schools, account).ok_or(Refused::NotOnRoster)?;
     Ok(u64::from(ceiling_of(schools, i)))
 }
 

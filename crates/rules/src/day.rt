@@ -31,10 +31,7 @@ fn long_month(month: u64) -> u64
     requires { month ≡ 2 → ⊥ }
     ensures { result ≡ get_or month_lengths month 0 }
 {
-    if month == 0 {
-        return 0;
-    }
-    if LAST_MONTH < month {
+    if !(1..=LAST_MONTH).contains(&month) {
         return 0;
     }
     30 + (month + month / 8) % 2

@@ -9,10 +9,7 @@ use signs::ZERO;
 pub fn digit_value(b: u8) -> u64
     ensures { (result ≡ digit_value b) × (result ≤ 207) }
 {
-    if b < ZERO {
-        return 0;
-    }
-    (b - ZERO) as u64
+    u64::from(b.saturating_sub(ZERO))
 }
 
 // The number that the two digits at a place spell; of any two bytes it is at most eleven times 207.

@@ -4,8 +4,9 @@ use Rattle.std.proofs.Math.Seq.{slice}
 use Rattle.cells.specs.Bytes.{pick, within, same}
 use Rattle.cells.specs.Little.{le_at}
 use Rattle.cells.specs.Search.{all_from, sum_from}
-use Rattle.signs.specs.Class.{all_of}
-use Rattle.signs.specs.declared.Class.TheVariants.{Allowed, Blank}
+use Rattle.signs.specs.Class.{all_of, of_class, named}
+use Rattle.signs.specs.declared.Class.TheVariants.{Any, Allowed, Digit, Blank}
+use Rattle.rules.specs.Day.{is_day}
 use Rattle.record.specs.Layout.{no_field, layout, first_broken}
 use Rattle.record.specs.declared.layout.Field.{Field}
 use Rattle.record.specs.declared.layout.Kind.TheVariants.{Goods}
@@ -69,6 +70,14 @@ slip_kept n line body =
     fields_kept slip_fields slip_number_at (take slip_key_width body)
     && (within 1 most_copies (slip_copies body)
     && (ltb (line_index body) n && parties_agree body (line (line_index body))))
+
+-- what a slip's key has besides its parties, which are those of its line: allowed bytes, a date, a slip number, which is not blank, and a position
+unfoldable pub slip_named : List ℕ → Bool
+slip_named key =
+    all_of Allowed key
+    && ((is_day (slice (party_width + party_width) slip_number_at key)
+    && (named Any (slice slip_number_at (slip_number_at + name_width) key) && of_class Digit 4 4 (slice (slip_number_at + name_width) slip_key_width key)))
+    && not (all_of Blank (slice slip_number_at (slip_number_at + name_width) key)))
 
 -- none of the first n entries has a key
 unfoldable pub is_new : ℕ → (ℕ → List ℕ) → List ℕ → ℕ → Bool

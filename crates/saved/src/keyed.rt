@@ -59,7 +59,7 @@ impl<'a> Keyed for Slips<'a> {
     ghost count = { λ l. l.count };
 
     fn key(&self, i: usize) -> &[u8] {
-        &self.body(i)[0..SLIP_KEY_WIDTH]
+        &self.body(i).bytes[0..SLIP_KEY_WIDTH]
     }
 
     fn has_key(&self, i: usize, key: &[u8]) -> bool {

@@ -10,13 +10,14 @@ ghost use Rattle.save.specs.Saved.{line_in, slip_in, all_of_kind, in_form, is_sa
 
 use crate::keyed::{Keyed, is_new};
 use cells::little::get;
+use kept::lines::KeptLines;
 use kept::{is_line_kept, is_slip_kept};
 use rules::amount::Copies;
 use save::form::{Form, KIND_BYTE};
 use save::lines::Lines;
 use save::slips::{SAVED_SLIP_WIDTH, Slips};
 use save::valid::ValidSave;
-use stored::{MOST_ARRIVED, SLIP_COPIES_AT, SLIP_KEY_WIDTH};
+use stored::MOST_ARRIVED;
 
 // The end: a byte of kind, then the used lines and the used slips.
 const COUNT_WIDTH: usize = 2;
@@ -33,14 +34,14 @@ pub const SLIP_KIND: u8 = 2;
 pub const END_KIND: u8 = 0;
 
 // The copies of a slip where it names the line at i, else none.
-#[tactic(auto, unfolding(save::specs::Entries::copies_on, save::specs::Entries::line_index, save::specs::Entries::slip_copies))]
+#[tactic(auto, unfolding(save::specs::Entries::copies_on))]
 fn copies_on(slips: Slips, j: usize, i: usize) -> Copies
     requires { j < slips.count }
     ensures { (result ≡ copies (copies_on (slip_in slips.entry.bytes.now slips.entry.at) i j)) × (result.0 < 65536) }
 {
     let slip = slips.body(j);
-    if get::<2>(slip, SLIP_KEY_WIDTH) as usize == i {
-        return Copies(get::<2>(slip, SLIP_COPIES_AT));
+    if slip.line() == i {
+        return Copies(slip.copies());
     }
     Copies(0)
 }
@@ -58,26 +59,26 @@ pub fn arrived_on(slips: Slips, i: usize) -> Copies
     Copies(sum)
 }
 
-// Whether the lines keep the rules, each with a key of its own.
+// Lines that keep the rules, each with a key of its own; or nothing.
 #[tactic(auto, unfolding(save::specs::Entries::lines_kept, save::specs::Saved::line_in), using(save::proofs::Walked::walked, save::proofs::Firsts::first_new))]
-fn are_lines_kept(lines: Lines) -> bool
-    ensures { result ≡ lines_kept lines.entry.count (line_in lines.entry.form lines.entry.bytes.now) }
+fn kept_lines<'a>(lines: Lines<'a>) -> Option<KeptLines<'a>>
+    ensures { MatchOption result (lines_kept lines.entry.count (line_in lines.entry.form lines.entry.bytes.now) ≡ false) (λ k. k.lines ≡ lines.entry) }
 {
     for i in 0..lines.count {
         if !(is_line_kept(lines.body(i)) & is_new(&lines, lines.key(i), i)) {
-            return false;
+            return None;
         }
     }
-    true
+    Some(KeptLines { lines })
 }
 
 // Whether the slips keep the rules by the lines, each with a key of its own.
 #[tactic(auto, unfolding(save::specs::Entries::slips_kept), using(save::proofs::Walked::walked, save::proofs::Firsts::first_new))]
-fn are_slips_kept(lines: Lines, slips: Slips) -> bool
-    ensures { result ≡ slips_kept lines.entry.count slips.entry.count (line_in lines.entry.form lines.entry.bytes.now) (slip_in slips.entry.bytes.now slips.entry.at) }
+fn are_slips_kept(kept: KeptLines, slips: Slips) -> bool
+    ensures { result ≡ slips_kept kept.entry.lines.count slips.entry.count (line_in kept.entry.lines.form kept.entry.lines.bytes.now) (slip_in slips.entry.bytes.now slips.entry.at) }
 {
     for j in 0..slips.count {
-        if !(is_slip_kept(lines, slips.body(j)) & is_new(&slips, slips.key(j), j)) {
+        if !(is_slip_kept(kept, slips.body(j)) & is_new(&slips, slips.key(j), j)) {
             return false;
         }
     }
@@ -150,15 +151,13 @@ pub fn valid_save(s: &[u8], form: Form) -> Option<ValidSave<'_>>
         form,
         count: n,
     };
-    if !are_lines_kept(lines) {
-        return None;
-    }
+    let kept = kept_lines(lines)?;
     let slips = Slips {
         bytes: s,
         at: form.slips_at(n),
         count: m,
     };
-    if !are_slips_kept(lines, slips) {
+    if !are_slips_kept(kept, slips) {
         return None;
     }
     if !are_sums_kept(slips, n) {

@@ -46,15 +46,10 @@ module _ (s room : List ℕ) where
       no_bundle b = rw (le-ltb _ _ wide, e, b)
 
       -- 26 and 27, or the parts in front of the room
-      module _ (b : is_bundle s ≡ true) (fs : List Optional) (named : fs ≡ optional_fields n s) where
-        pub parts_refused_law : (r : Refusal) → loops_judged (loops_of fs) ≡ Err r → read_parts s room ≡ outcome (read_of (Err r)) room
-        unfolding read_parts bundle_read parts_judged room_after
-        parts_refused_law r j = rw (le-ltb _ _ wide, e, b, ← named, j)
-
-        pub parts_read_law : (m : ℕ) → loops_judged (loops_of fs) ≡ Ok m
-            → read_parts s room ≡ outcome (read_of (Ok m)) (room_of (parts_of m (loops_of fs)) ++ drop (m * part_width) room)
-        unfolding read_parts bundle_read parts_judged room_after
-        parts_read_law m j = rw (le-ltb _ _ wide, e, b, ← named, j)
+      pub bundle_parts : is_bundle s ≡ true → (fs : List Optional) → fs ≡ optional_fields n s
+          → read_parts s room ≡ outcome (read_of (loops_judged (loops_of fs))) (room_after (loops_judged (loops_of fs)) fs room)
+      unfolding read_parts bundle_read parts_judged
+      bundle_parts b fs named = rw (le-ltb _ _ wide, e, b, named)
 
 -- what a check with a large table said, and the table that it left
 module _ (s lent : List ℕ) (large : LargeTable lent) (r : Checked) (t : List ℕ) (q : checks r t ≡ check s lent) where

@@ -1,5 +1,3 @@
-pub mod Texts
-pub mod Made
 pub mod Wide
 pub mod Judged
 pub mod Rooms

@@ -1,12 +1,16 @@
 -- How wide the values of a part are: as the arrays that hold them.
-use mathlib.Core.Path.{◌≡◌}
+use mathlib.Core.Path.{◌≡◌, sym}
 use mathlib.Core.List.{List}
+use Prim.Native.Nat.{ℕ}
+use native.Mathlib.Nat.{add-zero}
 use lib.ListN.{length, length-append}
+use lib.Seq.{sets}
 use mir.Val.{Val}
 use denote.Laws.{Is}
 use denote.Struct.Declared.{row}
 use Rattle.cells.specs.Bytes.{joined}
 use Rattle.cells.specs.Little.{le_bytes}
+use Rattle.cells.proofs.Filled.{Filled}
 use Rattle.parts.specs.Part.{price_width, price_bytes}
 use Rattle.parts.specs.declared.part.PartPrice.{PartPrice}
 use Rattle.parts.specs.declared.part.PartArticle.{PartArticle}
@@ -58,3 +62,7 @@ part_wide p vs g =
 pub price_length : {p : PartPrice} → PriceWide p → length (price_bytes p) ≡ price_width
 unfolding price_bytes joined le_bytes
 price_length w = simp (length-append, w.qualifier, w.currency)
+
+-- values stored one behind the other are all of them stored
+pub stored : {n base : ℕ} {ps : List (List ℕ)} {d out : List ℕ} → Filled n base 0 ps d out → out ≡ sets d base (joined ps)
+stored f = sym (rw add-zero at f.made)

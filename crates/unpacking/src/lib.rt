@@ -25,8 +25,9 @@ use writing::lent::InsideFields;
 pub const FULL_TABLE: usize = MOST_FIELDS * ENTRY_WIDTH;
 
 // 26, then 27: the loops that fields are from the first on that a loop may begin with.
+#[tactic(auto, using(crate::proofs::Judged::loops_staged))]
 fn judge_loops<'a>(fields: InsideFields<'a>) -> Result<Loops<'a>, Refusal>
-    ensures { MatchResult result (λ l. (loops_judged (loops_of (fields_of fields.entry)) ≡ Ok l.count) × (fields_of l.fields ≡ loops_of (fields_of fields.entry))) (λ r. loops_judged (loops_of (fields_of fields.entry)) ≡ Err r) }
+    ensures { MatchResult result (λ l. (loops_judged (loops_of (fields_of fields.entry)) ≡ Ok l.count) × (l.count ≤ most_parts) × (fields_of l.fields ≡ loops_of (fields_of fields.entry))) (λ r. loops_judged (loops_of (fields_of fields.entry)) ≡ Err r) }
 {
     let first = others_among(fields.table, fields.count);
     let left = fields.count - first;
@@ -63,6 +64,7 @@ fn fill(loops: Loops, room: &mut [u8])
 }
 
 // The number of parts of a bundle with these fields, which stand in the room; a refusal leaves the room as it was.
+#[tactic(auto, unfolding(parts::specs::Read::room_after))]
 fn take_parts(fields: InsideFields, room: &mut [u8]) -> Verdict
     requires { most_parts * part_width ≤ length room.old }
     ensures { (result ≡ loops_judged (loops_of (fields_of fields.entry))) × (room.new ≡ room_after result (fields_of fields.entry) room.old) }
@@ -73,6 +75,7 @@ fn take_parts(fields: InsideFields, room: &mut [u8]) -> Verdict
 }
 
 // The answer, its place and the number of parts, which stand in the room; a refusal leaves the room as it was.
+#[tactic(auto, using(crate::proofs::Bundles::small_room))]
 pub fn read_parts(s: &[u8], room: &mut [u8]) -> PartsRead
     ensures { outcome result room.new ≡ read_parts s.now room.old }
 {

@@ -18,7 +18,7 @@ ghost use Rattle.roster.specs.Schools.{account_told};
 use book::answer::{Booked, Told};
 use parts::answer::PartsRead;
 use record::answer::Checked;
-use roster::schools::{AccountTold, School, said};
+use roster::schools::{Account, AccountTold, School, said};
 use save::answer::{Loaded, Saved};
 use writing::answer::Written;
 
@@ -114,7 +114,7 @@ pub extern "C" fn wq_line<'a>(
 pub extern "C" fn wq_account(schools: &[School], address: &[u8], qualifier: &[u8]) -> AccountTold
     ensures { result ≡ account_told schools.now address.now qualifier.now }
 {
-    AccountTold::from(said(schools, address, qualifier))
+    AccountTold::from(said(schools, Account { address, qualifier }))
 }
 
 // Saves the lent book at the front of the output, in the new form.

@@ -4,7 +4,6 @@ use mathlib.Core.Bool.{true, false, not}
 use mathlib.Core.List.{List, [], ◌∷◌}
 use native.Mathlib.Numerals.{add-one}
 use Prim.Native.Nat.{ℕ, ◌+◌, ◌≤◌, ◌<◌}
-use borrow.Author.Tests.{leb-true}
 use lib.Dec.{ltb}
 use lib.ListN.{length, get_or, drop, drop_of_length-le}
 use lib.Seq.{drop-cons}
@@ -46,10 +45,6 @@ module _ (contents : List ℕ) (e : Entry) where
   pub writable_inside : writable contents e ≡ true → inside contents e ≡ true
   unfolding writable
   writable_inside h = and_left (inside contents e) _ (and_right (ltb e.id last_id) _ h)
-
-  pub writable_ends : writable contents e ≡ true → e.place + e.width ≤ length contents
-  unfolding inside
-  writable_ends h = leb-true (e.place + e.width) (length contents) (writable_inside h)
 
   -- and so does one that can be a field
   pub kept_inside : (k : Kind) → entry_kept k contents e ≡ true → inside contents e ≡ true

@@ -1,15 +1,14 @@
 // The entries of a table, judged as fields to be written.
-ghost use Rattle.std.specs.Prelude.{◌≡◌, length, ◌-◌, ◌*◌, ◌≤◌, ◌<◌, drop, Ok, Err, MatchResult, None};
+ghost use Rattle.std.specs.Prelude.{◌≡◌, length, ◌-◌, ◌*◌, ◌≤◌, ◌<◌, drop, Ok, Err, MatchOption, MatchResult, None, true, false};
 ghost use Rattle.cells.specs.Bytes.{all};
 ghost use Rattle.record.specs.Layout.{most_bytes, most_fields};
 ghost use Rattle.record.specs.Contents.{content_kept};
 ghost use Rattle.record.specs.Read.{entry_width};
 ghost use Rattle.writing.specs.Widths.{width_after, capped};
-ghost use Rattle.writing.specs.Write.{entry_of, entries, content_in, content_byte, writable, next_id, entry_kept, fields_judged, lent_judged};
+ghost use Rattle.writing.specs.Write.{entry_of, entries, content_in, content_byte, inside, next_id, entry_kept, fields_judged, lent_judged};
 
 use crate::answer::{Refusal, Verdict};
 use crate::lent::{InsideFields, LentFields};
-use cells::part;
 use record::contents::{group_kept, is_guarded, rule_kept};
 use record::fields::{ENTRY_WIDTH, HEAD_WIDTH, LAST_ID};
 use record::layout::{Kind, MOST_BYTES};
@@ -36,22 +35,12 @@ pub fn is_content(s: &[u8]) -> bool
     true
 }
 
-// Whether an ID is below 9999, and its content inside the lent bytes and of bytes that may stand there.
-#[tactic(auto, unfolding(crate::specs::Write::writable, crate::specs::Write::inside, crate::specs::Write::content_in), using(std::proofs::lemmas::Bool::Decides::nat_tests))]
-fn is_writable(contents: &[u8], e: Entry) -> bool
-    ensures { result ≡ writable contents.now e }
+// The content of an entry, where it stands inside the lent bytes.
+#[tactic(auto, unfolding(crate::specs::Write::inside, crate::specs::Write::content_in), using(std::proofs::lemmas::Bool::Decides::nat_tests))]
+fn content_of<'a>(contents: &'a [u8], e: Entry) -> Option<&'a [u8]>
+    ensures { MatchOption result (inside contents.now e ≡ false) (λ s. (inside contents.now e ≡ true) × (s.now ≡ content_in contents.now e)) }
 {
-    let all = contents.len();
-    if LAST_ID <= e.id {
-        return false;
-    }
-    if all < e.place {
-        return false;
-    }
-    if all - e.place < e.width {
-        return false;
-    }
-    is_content(part(contents, e.place, e.place + e.width))
+    contents.get(e.place..e.place.checked_add(e.width)?)
 }
 
 // Whether a content is as the table of RULES 2.3 has it.
@@ -65,15 +54,18 @@ fn content_kept(k: Kind, id: usize, content: &[u8]) -> bool
     rule_kept(id, content)
 }
 
-// Whether an entry can be written as a field.
-#[tactic(auto, unfolding(crate::specs::Write::entry_kept, crate::specs::Write::content_in), using(crate::proofs::Contents::writable_ends))]
+// Whether an entry can be written as a field: an ID below 9999, and a content inside the lent bytes, of bytes that may stand there, as the table has it.
+#[tactic(auto, unfolding(crate::specs::Write::entry_kept, crate::specs::Write::writable), using(std::proofs::lemmas::Bool::Decides::nat_tests))]
 fn keeps_entry(k: Kind, contents: &[u8], e: Entry) -> bool
     ensures { result ≡ entry_kept k contents.now e }
 {
-    if !is_writable(contents, e) {
+    if LAST_ID <= e.id {
         return false;
     }
-    content_kept(k, e.id, part(contents, e.place, e.place + e.width))
+    let Some(content) = content_of(contents, e) else {
+        return false;
+    };
+    is_content(content) && content_kept(k, e.id, content)
 }
 
 // 8, then 23: so many entries of a table, where a record may have at most so many and the table has them all.

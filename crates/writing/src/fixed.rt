@@ -7,7 +7,7 @@ use crate::answer::{Refusal, Verdict};
 use record::layout::{Kind, first_broken, fixed_width, kind_of, layout};
 use signs::allowed_run;
 
-// The index of the field that the byte at a place stands in, or the number of fields past them.
+// The index of the field that the byte at a place stands in, or the number of fields past them: no Option, so that the smaller of two such indices is the first fault.
 #[tactic(auto, using(crate::proofs::Holding::holding))]
 pub fn field_holding(k: Kind, place: usize) -> usize
     ensures { result ≡ field_holding (layout k) place }

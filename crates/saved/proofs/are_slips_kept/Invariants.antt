@@ -12,5 +12,5 @@ kept n line slip j = slip_kept n line (slip j) && is_first slip_key_width slip j
 
 abbrev pub invariant-loop-j : goal.invariant-loop-j
 invariant-loop-j l =
-    all_from (kept l.lines.count (line_in l.lines.form l.lines.bytes.now) (slip_in l.slips.bytes.now l.slips.at)) l.slips.count 0
-    ≡ all_from (kept l.lines.count (line_in l.lines.form l.lines.bytes.now) (slip_in l.slips.bytes.now l.slips.at)) (l.slips.count - l.j) l.j
+    all_from (kept l.kept.lines.count (line_in l.kept.lines.form l.kept.lines.bytes.now) (slip_in l.slips.bytes.now l.slips.at)) l.slips.count 0
+    ≡ all_from (kept l.kept.lines.count (line_in l.kept.lines.form l.kept.lines.bytes.now) (slip_in l.slips.bytes.now l.slips.at)) (l.slips.count - l.j) l.j

@@ -5,4 +5,4 @@ use Rattle.roster.specs.Schools.{is_account, find_school}
 use Rattle.roster.proofs.schools.find_school.Given as goal
 
 abbrev pub invariant-loop-i : goal.invariant-loop-i
-invariant-loop-i l = find_school l.schools l.address l.qualifier ≡ first_from (is_account l.schools l.address l.qualifier) (length l.schools - l.i) l.i
+invariant-loop-i l = find_school l.schools l.account.address.now l.account.qualifier.now ≡ first_from (is_account l.schools l.account.address.now l.account.qualifier.now) (length l.schools - l.i) l.i

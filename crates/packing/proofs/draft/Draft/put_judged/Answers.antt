@@ -1,10 +1,7 @@
 -- `packing::draft::Draft::put_judged` meets its contract: what is judged to fit is all that putting it asks for.
-use mathlib.Core.Path.{◌≡◌, ◌∙◌, sym}
+use mathlib.Core.Path.{◌∙◌, sym}
 use native.Mathlib.Omega.{arith}
-use Rattle.parts.specs.Fields.{lent_fields}
-use Rattle.packing.specs.Judged.{judged_with}
 use Rattle.packing.proofs.Rest.{placed, with_stored}
-use Rattle.std.specs.Prelude.{Ok}
 use Rattle.writing.specs.Write.{output_after}
 use Rattle.packing.proofs.draft.Draft.put_judged.Goals as goal
 

@@ -5,7 +5,7 @@ use Rattle.entry.specs.Stored.{key_width}
 use Rattle.save.specs.Entries.{line_kept, is_first}
 use Rattle.save.specs.Saved.{line_in}
 use Rattle.save.specs.declared.form.Form.{Form}
-use Rattle.saved.proofs.are_lines_kept.Given as goal
+use Rattle.saved.proofs.kept_lines.Given as goal
 
 -- the line at i keeps the rules, and no earlier line has its key
 abbrev pub kept : Form → List ℕ → ℕ → Bool
