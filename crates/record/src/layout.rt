@@ -333,8 +333,8 @@ pub fn first_broken(k: Kind, s: &[u8]) -> usize
     fields.len()
 }
 
-#[tactic(auto, unfolding(crate::specs::Layout::kind_of))]
 // The kind that the first four bytes name; an L101 dated eight zeros is a closing record.
+#[tactic(auto, unfolding(crate::specs::Layout::kind_of))]
 pub fn kind_of(s: &[u8]) -> Option<Kind>
     ensures { result ≡ kind_of s.now }
 {
