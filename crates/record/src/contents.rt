@@ -63,12 +63,7 @@ pub fn rule_kept(id: usize, content: &[u8]) -> bool
 pub fn is_guarded(k: Kind, id: usize) -> bool
     ensures { result ≡ guarded k id }
 {
-    match k {
-        Kind::Order => (id == 1001) | ((id == 1003) | ((id == 1051) | (id == 9010))),
-        Kind::Goods => false,
-        Kind::Closing => false,
-        Kind::Report => false,
-    }
+    matches!((k, id), (Kind::Order, 1001 | 1003 | 1051 | 9010))
 }
 
 // Whether a byte is one that a guarded field may not hold.

@@ -21,10 +21,7 @@ use signs::{Class, STAR, all_of};
 pub fn head_at(s: &[u8], at: usize) -> Option<usize>
     ensures { result ≡ head_of (drop at s.now) }
 {
-    if s.len() <= at {
-        return None;
-    }
-    if s.len() - at < HEAD_WIDTH {
+    if s.len().saturating_sub(at) < HEAD_WIDTH {
         return None;
     }
     if s[at] != STAR {
