@@ -89,7 +89,7 @@ fn judge_as(name: &[u8], s: &[u8]) -> Verdict
 }
 
 // A kind of record as a type of its values: the name that it begins with, and its values from bytes.
-pub trait Typed: Default {
+pub trait Typed {
     ghost name: { List ℕ };
 
     ghost zeros: { Self };

@@ -44,7 +44,7 @@ pub fn content_rule(id: usize) -> Rule
     }
 }
 
-// Whether a content keeps the rule of its ID; no content has one of the other rules.
+// Whether a content keeps the rule of its ID; no content has one of the other rules. A match of its own: a second caller of `keeps_rule` would cost reading a sixth of its time (docs/PERFORMANCE.md).
 #[tactic(auto, unfolding(rules::specs::Rule::keeps))]
 pub fn rule_kept(id: usize, content: &[u8]) -> bool
     ensures { result ≡ keeps (content_rule id) [] content.now }
@@ -117,10 +117,7 @@ pub fn previous_member(id: usize) -> Option<usize>
 fn is_wanted(member: Option<usize>, neighbour: Option<usize>) -> bool
     ensures { result ≡ is_wanted member neighbour }
 {
-    match member {
-        Some(_) => neighbour == member,
-        None => true,
-    }
+    member.is_none() | (neighbour == member)
 }
 
 // Whether a field stands unbroken in its group, between the field before it, where there is one, and the field after it.

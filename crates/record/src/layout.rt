@@ -316,7 +316,7 @@ pub fn start_of(k: Kind, index: usize) -> usize
     at
 }
 
-// The index of the first fixed field that breaks its rule, or the number of fields where none does.
+// The index of the first fixed field that breaks its rule; the number of fields where none does, and no Option, since writing takes the lesser of this index and another.
 #[tactic(auto, using(crate::proofs::Layouts::total_at, crate::proofs::Layouts::broken_at, crate::proofs::Layouts::total_most), unfolding(crate::specs::Layout::first_broken))]
 pub fn first_broken(k: Kind, s: &[u8]) -> usize
     ensures { result ≡ first_broken (layout k) s.now }

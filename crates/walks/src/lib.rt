@@ -34,7 +34,7 @@ pub fn head_at(s: &[u8], at: usize) -> Option<usize>
     Some(number_of(digits) as usize)
 }
 
-// The ID of the field at a place, 0 where none stands.
+// The ID of the field at a place; 0 where none stands, as `id_of` has it: the first walk has seen that one does.
 #[tactic(auto, unfolding(record::specs::Fields::id_of, record::specs::Fields::id_in))]
 pub fn id_at(s: &[u8], at: usize) -> usize
     ensures { result ≡ id_of (drop at s.now) }
