@@ -1,11 +1,11 @@
 -- Bytes in front of an array of zeros.
 use mathlib.Core.Path.{◌≡◌, ◌∙◌}
-use mathlib.Core.List.{List, ◌++◌, append-nil}
+use mathlib.Core.List.{List, append-nil}
 use Prim.Native.Nat.{ℕ, ◌-◌, ◌≤◌}
 use native.Mathlib.Nat.{zero-add}
 use native.Mathlib.Omega.{arith}
 use Rattle.std.proofs.lemmas.List.{drop-replicate}
-use lib.ListN.{length, take, drop, replicate, length-take, length-append, length-replicate}
+use lib.ListN.{length, take, replicate, length-take, length-append, length-replicate}
 use lib.Seq.{slice, sets, sets-eq, take_all}
 use Rattle.parts.specs.Part.{fitted}
 

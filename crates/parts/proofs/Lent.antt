@@ -5,7 +5,6 @@ use Prim.Native.Nat.{ℕ, zero, suc, ◌+◌, ◌-◌, ◌*◌, ◌≤◌, ◌<�
 use native.Mathlib.Omega.{arith}
 use lib.ListN.{length, get_or, replicate, length-append}
 use lib.Seq.{slice, take_all, take_at, length-slice}
-use Rattle.cells.proofs.Parts.{next, nothing}
 use Rattle.writing.specs.Digits.{unwritable}
 use Rattle.parts.specs.Loops.{loop, loop_fields}
 use Rattle.parts.specs.Part.{article_width, price_width, part_width, length_at, article_at, article_qualifier_at, price_qualifier_at, currency_at, fitted, lent_price, lent_article, lent_part}

@@ -4,13 +4,11 @@ use mathlib.Core.Bool.{Bool, true, false, ◌&&◌}
 use mathlib.Core.List.{List, [], ◌∷◌}
 use Prim.Native.Nat.{ℕ, suc, ◌+◌, ◌-◌, ◌*◌, ◌≤◌, ◌<◌}
 use native.Mathlib.Nat.{add-zero}
-use native.Mathlib.Numerals.{add-one}
 use native.Mathlib.Omega.{arith}
 use borrow.Author.Tests.{eq-eqb, ne_eqb}
 use lib.ListN.{length, get_or, drop}
-use lib.Seq.{drop-cons, get_or-drop}
+use lib.Seq.{get_or-drop}
 use Rattle.cells.proofs.Bools.{and_true}
-use Rattle.rules.specs.Rule.{keeps}
 use Rattle.record.specs.Fields.{Optional}
 use Rattle.record.specs.Read.{entry_width}
 use Rattle.writing.specs.Write.{entry_of, entries, optional_in, optional_of}
@@ -20,7 +18,7 @@ use Rattle.writing.proofs.Tables.{entry_from, entries_first, entries_end}
 use Rattle.rules.specs.declared.rule.Texts.TheVariants.{NetPrice, ListPrice}
 use Rattle.rules.specs.declared.rule.Rule.TheVariants.{Free, OneOf}
 use Rattle.parts.specs.Named.{is_price}
-use Rattle.parts.specs.Loops.{◌asks◌, loop, loop_fields, part_id, no_member, is_member, is_loop, others_in}
+use Rattle.parts.specs.Loops.{◌asks◌, loop, loop_fields, part_id, is_member, is_loop, others_in}
 use Rattle.parts.specs.Part.{no_optional}
 use Rattle.parts.specs.Entries.{others_among}
 

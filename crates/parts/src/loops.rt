@@ -1,4 +1,4 @@
-// The loop that a part is, as data, and loops in a table of fields.
+// The loop that a part is, and loops in a table of fields.
 ghost use Rattle.std.specs.Prelude.{◌≡◌, ◌+◌, ◌*◌, ◌≤◌, ◌<◌, length, get_or, take, drop};
 ghost use Rattle.rules.specs.declared.rule.Rule.TheVariants.{Free};
 ghost use Rattle.record.specs.Read.{entry_width};
@@ -90,6 +90,7 @@ impl<'a> Loop<'a> {
     }
 
     // Whether the fields are a loop: tax mark, net price, list price, article and its qualifier, medium.
+    // An array of ten members was tried: it is laid down anew wherever it is asked, which cost more than the asking.
     #[tactic(auto, using(crate::proofs::Members::loop_is))]
     pub fn is_loop(self) -> bool
         ensures { result ≡ is_loop loop (fields_of self.entry.fields) }

@@ -1,7 +1,7 @@
 -- The parts of a bundle, read by the tests that the code makes.
 use mathlib.Core.Path.{◌≡◌, ◌∙◌, ap, sym, refl}
 use mathlib.Core.Bool.{true, false}
-use mathlib.Core.List.{List, ◌++◌}
+use mathlib.Core.List.{List}
 use Prim.Native.Nat.{ℕ, ◌*◌, ◌≤◌, ◌<◌}
 use borrow.Author.Tests.{lt-ltb, le-ltb}
 use lib.ListN.{length, drop}
@@ -23,7 +23,6 @@ use Rattle.parts.specs.Loops.{most_parts, is_bundle, loops_of}
 use Rattle.parts.specs.Part.{part_width, parts_of, room_of}
 use Rattle.parts.specs.Answers.{read_of}
 use Rattle.parts.specs.Read.{loops_judged, parts_judged, outcome, room_after, bundle_read, read_parts}
-use Rattle.parts.specs.declared.answer.Refusal.{Refusal}
 use Rattle.parts.specs.declared.answer.Refusal.TheVariants.{SmallRoom}
 
 module _ (s room : List ℕ) where

@@ -17,7 +17,7 @@ use parts::entry::PART_WIDTH;
 use parts::loops::{LOOP_FIELDS, MOST_PARTS, is_bundle, others_among};
 use parts::table::Loops;
 use reader::check;
-use record::fields::{ENTRY_WIDTH, LAST_ID};
+use record::fields::ENTRY_WIDTH;
 use record::layout::MOST_FIELDS;
 use writing::lent::InsideFields;
 
@@ -82,7 +82,7 @@ pub fn read_parts(s: &[u8], room: &mut [u8]) -> PartsRead
     if room.len() < MOST_PARTS * PART_WIDTH {
         return PartsRead::from(Err(Refusal::SmallRoom));
     }
-    let mut table = [LAST_ID; FULL_TABLE];
+    let mut table = [0; FULL_TABLE];
     let checked = check(s, &mut table);
     if checked.answer != 0 {
         return PartsRead {

@@ -1,7 +1,7 @@
 -- `unpacking::fill` meets its contract. The invariant: the parts that are left, stored in the room as it is, give what all give in the room as it was.
 use mathlib.Core.Path.{◌≡◌}
-use Prim.Native.Nat.{◌-◌, ◌*◌, ◌≤◌}
-use lib.ListN.{length, drop}
+use Prim.Native.Nat.{◌-◌, ◌*◌}
+use lib.ListN.{drop}
 use lib.Seq.{sets}
 use Rattle.parts.specs.Loops.{loop_fields}
 use Rattle.parts.specs.Named.{fields_of}

@@ -1,18 +1,16 @@
 -- `unpacking::read_parts` meets its contract: a record refused, no bundle, or what its loops say.
-use mathlib.Core.Path.{◌≡◌, ◌∙◌, ap, sym}
+use mathlib.Core.Path.{sym}
 use native.Mathlib.Omega.{arith}
 use lib.ListN.{replicate}
 use Rattle.cells.proofs.Bools.{is_not, is_so}
 use Rattle.std.specs.Prelude.{ℕ, List}
 use Rattle.reader.proofs.Fitting.{fits_count}
-use Rattle.parts.specs.Read.{outcome}
-use Rattle.parts.specs.declared.answer.PartsRead.{PartsRead}
 use Rattle.unpacking.proofs.Bundles.{no_bundle, bundle_parts, not_read, record_holds, fields_named, fields_inside}
 use Rattle.unpacking.proofs.read_parts.Goals as goal
 
 -- the table that is lent to the check
 abbrev lent : List ℕ
-lent = replicate 288 9999
+lent = replicate 288 0
 
 pub returns-then-checked-ne0 : goal.returns-then-checked-ne0
 returns-then-checked-ne0 c =
