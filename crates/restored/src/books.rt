@@ -34,7 +34,6 @@ pub fn loads_exactly()
 {}
 
 // A book made by bookings from empty comes back from its save.
-#[tactic(auto, using(crate::proofs::Bookings::bookings_orderly))]
 pub fn bookings_orderly()
     ensures { BookingsOrderly }
 {}
@@ -45,7 +44,6 @@ pub fn book_survives()
 {}
 
 // Bookings keep a book so, also one that was loaded.
-#[tactic(auto, using(crate::proofs::Bookings::stays_orderly))]
 pub fn stays_orderly()
     ensures { StaysOrderly }
 {}

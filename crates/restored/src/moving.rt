@@ -30,7 +30,6 @@ pub fn to_new_exactly()
     ensures { ToNewExactly }
 {}
 
-#[tactic(auto, using(crate::proofs::Moves::to_old_exactly))]
 pub fn to_old_exactly()
     ensures { ToOldExactly }
 {}
