@@ -20,8 +20,7 @@ use Rattle.record.specs.declared.layout.Kind.{Kind}
 use Rattle.roundtrip.specs.Record.{optional_kept}
 use Rattle.roundtrip.proofs.Texts.{contents_allowed}
 use Rattle.roundtrip.proofs.OptionalKept.{first_kept}
-use Rattle.parts.specs.declared.loops.Member.{Member}
-use Rattle.parts.specs.Loops.{loop, loop_fields, no_member, is_member, is_loop}
+use Rattle.parts.specs.Loops.{Member, loop, loop_fields, no_member, is_member, is_loop}
 use Rattle.parts.specs.Part.{no_optional, text_of}
 
 -- a content keeps the rule of its ID, and its bytes are allowed

@@ -20,8 +20,7 @@ use Rattle.record.specs.Fields.{Optional}
 use Rattle.writing.specs.Digits.{number_bytes}
 use Rattle.roundtrip.proofs.Sequences.{one_byte}
 use Rattle.roundtrip.proofs.NumbersBack.{digits_back}
-use Rattle.parts.specs.declared.loops.Member.{Member}
-use Rattle.parts.specs.Loops.{loop, loop_fields, is_member, is_loop}
+use Rattle.parts.specs.Loops.{Member, loop, loop_fields, is_member, is_loop}
 use Rattle.parts.specs.Part.{most_digits, article_width, fitted, text_of, medium_of, price_from, article_from, part_of}
 use Rattle.parts.specs.Fields.{amount_text, article_text, medium_text, part_texts, with_ids, part_fields}
 use Rattle.parts.proofs.Fits.{fitted_whole}

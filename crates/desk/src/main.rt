@@ -8,9 +8,8 @@ use entry::report::MOST_MESSAGE;
 use feed::Feed;
 use own::book_own;
 use record::answer::Refusal;
-use std::fmt;
-use std::io;
 use std::io::{Read, Write};
+use std::{fmt, io};
 
 const UNKNOWN: u8 = b'?';
 

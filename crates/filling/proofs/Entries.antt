@@ -9,12 +9,9 @@ use lib.Seq.{sets, length-slice}
 use Rattle.cells.specs.Little.{le_bytes}
 use Rattle.cells.proofs.Stores.{sets_append}
 use Rattle.entry.specs.Stored.{line_width, slip_width, arrived_at}
-use Rattle.save.specs.Entries.{arrived_on}
-use Rattle.save.specs.Form.{front_width, saved_line_width, slips_at}
-use Rattle.save.specs.Saved.{slip_kind, slip_body_width, saved_slip_width, end_kind, line_front_at, slip_body_at, end_entry, line_in, slip_in}
-use Rattle.save.specs.Load.{line_from, loaded_line}
-use Rattle.save.specs.declared.form.Form.{Form}
-use Rattle.save.proofs.Bodies.{line_long}
+use Rattle.save.specs.Form.{front_width}
+use Rattle.save.specs.Saved.{slip_kind, slip_body_width, saved_slip_width, end_kind, line_front_at, slip_body_at, end_entry}
+use Rattle.save.specs.Load.{line_from}
 
 -- the end
 pub end_stored : (d : List ℕ) (at n m : ℕ) → sets (sets (set d at end_kind) (at + 1) (le_bytes 2 n)) (at + 3) (le_bytes 2 m) ≡ sets d at (end_entry n m)
@@ -46,7 +43,3 @@ line_stored d at front arrived e = rw (sets_append d at front (le_bytes 4 arrive
 pub from_long : (front : List ℕ) (arrived : ℕ) → length front ≡ front_width → length (line_from front arrived) ≡ line_width
 unfolding line_from le_bytes
 from_long front arrived e = rw (length-append front (le_bytes 4 arrived), e)
-
-pub loaded_long : (form : Form) (s : List ℕ) (n m i : ℕ) → saved_line_width form * i + saved_line_width form ≤ length s → length (loaded_line form s n m i) ≡ line_width
-unfolding loaded_line
-loaded_long form s n m i h = from_long (line_in form s i) (arrived_on (slip_in s (slips_at form n)) m i) (line_long form s i h)

@@ -18,7 +18,7 @@ use record::places::{
 use record::values::{Article, Delivery, Order, Party, Report};
 use rules::day::Day;
 use rules::expected::Expected;
-use writing::digits::{put_byte, put_digits, put_number, put_unwritable};
+use writing::digits::{put_byte, put_digits, put_number};
 
 // Where a qualifier stands behind its address, and behind its article.
 const ADDRESS_WIDTH: usize = 10;
@@ -41,19 +41,19 @@ const DISCOUNT_DIGITS: usize = 8;
 
 const PRICE_DIGITS: usize = 15;
 
-// Eight digits of a real day.
-#[tactic(auto, unfolding(writing::specs::Typed::day_bytes, writing::specs::Typed::day_digits), using(cells::proofs::Stores::sets_append, writing::proofs::Decimals::digits_length))]
-fn put_day(out: &mut [u8], at: usize, d: Day)
-    requires { at + day_width ≤ length out.old }
-    ensures { out.new ≡ sets out.old at (day_bytes d) }
+// Eight digits of a real day; of any other zeros, which no field may hold.
+#[tactic(auto, unfolding(writing::specs::Typed::day_bytes, writing::specs::Typed::day_digits, writing::specs::Digits::digits_of, writing::specs::Digits::unwritable))]
+fn day_bytes(d: Day) -> [u8; Day::WIDTH]
+    ensures { result ≡ day_bytes d }
 {
-    if d.is_real() {
-        put_digits(out, at, YEAR_DIGITS, d.year);
-        put_digits(out, at + YEAR_DIGITS, MONTH_DIGITS, d.month);
-        put_digits(out, at + YEAR_DIGITS + MONTH_DIGITS, DAY_DIGITS, d.day);
-    } else {
-        put_unwritable(out, at, Day::WIDTH);
+    let mut out = [0; Day::WIDTH];
+    if !d.is_real() {
+        return out;
     }
+    put_digits(&mut out, 0, YEAR_DIGITS, d.year);
+    put_digits(&mut out, YEAR_DIGITS, MONTH_DIGITS, d.month);
+    put_digits(&mut out, YEAR_DIGITS + MONTH_DIGITS, DAY_DIGITS, d.day);
+    out
 }
 
 // Whether a delivery's date is that of a closing record.
@@ -66,26 +66,24 @@ fn is_no_day(d: Day) -> bool
 
 // A delivery's date: of a closing record eight zeros.
 #[tactic(auto, unfolding(writing::specs::Typed::delivery_day_bytes))]
-fn put_delivery_day(out: &mut [u8], at: usize, d: Day)
-    requires { at + day_width ≤ length out.old }
-    ensures { out.new ≡ sets out.old at (delivery_day_bytes d) }
+fn delivery_day_bytes(d: Day) -> [u8; Day::WIDTH]
+    ensures { result ≡ delivery_day_bytes d }
 {
     if is_no_day(d) {
-        paste_at(out, at, b"00000000");
-    } else {
-        put_day(out, at, d);
+        return *b"00000000";
     }
+    day_bytes(d)
 }
 
+// What a report expects: a day, or eight zeros or blanks.
 #[tactic(auto, unfolding(writing::specs::Typed::expected_bytes))]
-fn put_expected(out: &mut [u8], at: usize, e: Expected)
-    requires { at + day_width ≤ length out.old }
-    ensures { out.new ≡ sets out.old at (expected_bytes e) }
+fn expected_bytes(e: Expected) -> [u8; Day::WIDTH]
+    ensures { result ≡ expected_bytes e }
 {
     match e {
-        Expected::On(d) => put_day(out, at, d),
-        Expected::Zeros => paste_at(out, at, b"00000000"),
-        Expected::Blanks => paste_at(out, at, b"        "),
+        Expected::On(d) => day_bytes(d),
+        Expected::Zeros => *b"00000000",
+        Expected::Blanks => *b"        ",
     }
 }
 
@@ -142,7 +140,7 @@ impl FixedPart<ORDER_WIDTH> for Order {
         paste_at(&mut out, 0, b"B101");
         put_party(&mut out, SENDER, self.sender);
         put_party(&mut out, RECIPIENT, self.recipient);
-        put_day(&mut out, DATE_START, self.date);
+        paste_at(&mut out, DATE_START, &day_bytes(self.date));
         paste_at(&mut out, ORDER_REFERENCE, &self.reference);
         put_article(&mut out, ORDER_ARTICLE, self.article);
         put_number::<QUANTITY_DIGITS>(&mut out, ORDER_QUANTITY, self.quantity.0);
@@ -162,7 +160,7 @@ impl FixedPart<DELIVERY_WIDTH> for Delivery {
         paste_at(&mut out, 0, b"L101");
         put_party(&mut out, SENDER, self.sender);
         put_party(&mut out, RECIPIENT, self.recipient);
-        put_delivery_day(&mut out, DATE_START, self.date);
+        paste_at(&mut out, DATE_START, &delivery_day_bytes(self.date));
         paste_at(&mut out, SLIP, &self.slip);
         paste_at(&mut out, POSITION, &self.position);
         paste_at(&mut out, REFERENCE, &self.reference);
@@ -188,7 +186,7 @@ impl FixedPart<REPORT_WIDTH> for Report {
         put_article(&mut out, REPORT_ARTICLE, self.article);
         put_number::<MESSAGE_DIGITS>(&mut out, MESSAGE, self.message);
         put_byte(&mut out, HOLD, self.hold);
-        put_expected(&mut out, EXPECTED, self.expected);
+        paste_at(&mut out, EXPECTED, &expected_bytes(self.expected));
         paste_at(&mut out, PARTIAL, b"0000");
         out
     }

@@ -4,15 +4,18 @@
 ghost use Rattle.std.specs.Prelude.{◌≤◌, ◌<◌, length};
 
 use cells::part;
-use reader::{check, read_delivery, read_order, read_report};
+use fixed::FixedPart;
+use reader::{Typed, check, read_typed};
 use record::fields::ENTRY_WIDTH;
 use record::layout::{KIND_WIDTH, Kind, MOST_BYTES, fixed_width, kind_of};
+use record::values::{Delivery, Order, Report};
 use shown::show_values;
 use shown_parts::{Listed, show_parts, show_written};
 use std::io;
 use std::io::{Read, Write};
 use unpacking::FULL_TABLE;
-use writer::{write, write_delivery, write_order, write_report};
+use writer::{write, write_typed};
+use writing::answer::Written;
 
 // Of a longer input no more is read.
 const MOST_INPUT: usize = 65536;
@@ -34,6 +37,19 @@ fn show_fields<W: Write>(out: &mut W, listed: Listed) -> io::Result<()> {
     Ok(())
 }
 
+// A record written from its typed values, as they are read.
+fn write_values<const N: usize, T: Typed + FixedPart<N>>(
+    listed: Listed,
+    copy: &mut [u8; MOST_BYTES],
+) -> Written {
+    let Listed {
+        record,
+        table,
+        fields,
+    } = listed;
+    write_typed(read_typed::<T>(record).value, table, fields, record, copy)
+}
+
 // The record written from its fixed part's bytes, and from its typed values, with the table that the check filled.
 fn write_back<W: Write>(out: &mut W, listed: Listed) -> io::Result<()> {
     let Listed {
@@ -49,22 +65,13 @@ fn write_back<W: Write>(out: &mut W, listed: Listed) -> io::Result<()> {
     let written = write(fixed, table, fields, record, &mut copy);
     show_written(out, "bytes", written, &copy, record)?;
     let (what, written) = match kind {
-        Kind::Order => {
-            let order = read_order(record).value;
-            ("order", write_order(order, table, fields, record, &mut copy))
-        }
-        Kind::Goods => {
-            let delivery = read_delivery(record).value;
-            ("delivery", write_delivery(delivery, table, fields, record, &mut copy))
-        }
-        Kind::Closing => {
-            let delivery = read_delivery(record).value;
-            ("closing record", write_delivery(delivery, table, fields, record, &mut copy))
-        }
-        Kind::Report => {
-            let report = read_report(record).value;
-            ("report", write_report(report, table, fields, record, &mut copy))
-        }
+        Kind::Order => ("order", write_values::<_, Order>(listed, &mut copy)),
+        Kind::Goods => ("delivery", write_values::<_, Delivery>(listed, &mut copy)),
+        Kind::Closing => (
+            "closing record",
+            write_values::<_, Delivery>(listed, &mut copy),
+        ),
+        Kind::Report => ("report", write_values::<_, Report>(listed, &mut copy)),
     };
     show_written(out, what, written, &copy, record)
 }

@@ -1,20 +1,26 @@
 -- Bytes in front of an array of zeros.
 use mathlib.Core.Path.{◌≡◌, ◌∙◌}
 use mathlib.Core.List.{List, ◌++◌, append-nil}
-use Prim.Native.Nat.{ℕ, ◌-◌, min}
+use Prim.Native.Nat.{ℕ, ◌-◌, ◌≤◌}
+use native.Mathlib.Nat.{zero-add}
 use native.Mathlib.Omega.{arith}
-use Rattle.std.proofs.lemmas.List.{take_min, drop-replicate}
+use Rattle.std.proofs.lemmas.List.{drop-replicate}
 use lib.ListN.{length, take, drop, replicate, length-take, length-append, length-replicate}
-use lib.Seq.{take_all}
+use lib.Seq.{slice, sets, sets-eq, take_all}
 use Rattle.parts.specs.Part.{fitted}
 
--- as many as there is room for, over an array of zeros
-pub fitted_over : (room : ℕ) (s : List ℕ) → take (min (length s) room) s ++ drop (min (length s) room) (replicate room 0) ≡ fitted room s
+-- of more bytes than there is room for, those in front
+pub fitted_full : (room : ℕ) (s : List ℕ) → room ≤ length s → fitted room s ≡ slice 0 room s
 unfolding fitted
-fitted_over room s =
-    let m : min (length s) room ≡ min room (length s) = omega arith in
-    let k : room - min room (length s) ≡ room - length s = omega arith in
-    rw (m, take_min, drop-replicate, k)
+fitted_full room s h =
+    let k : room - length s ≡ 0 = omega arith in
+    rw k (append-nil (take room s))
+
+-- of fewer, all of them over an array of zeros
+pub fitted_over : (room : ℕ) (s : List ℕ) → length s ≤ room → sets (replicate room 0) 0 s ≡ fitted room s
+unfolding fitted
+fitted_over room s h =
+    sets-eq s (replicate room 0) 0 (rw length-replicate (omega arith)) ∙ rw (zero-add, drop-replicate, take_all room s h)
 
 -- bytes that have all the room are themselves
 pub fitted_whole : (room : ℕ) (s : List ℕ) → length s ≡ room → fitted room s ≡ s

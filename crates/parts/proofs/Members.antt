@@ -1,6 +1,6 @@
 -- The members of a loop by their index, and the loop that fields are, one field at a time.
 use mathlib.Core.Path.{◌≡◌, refl}
-use mathlib.Core.Bool.{true, false, ◌&&◌}
+use mathlib.Core.Bool.{Bool, true, false, ◌&&◌}
 use mathlib.Core.List.{List, [], ◌∷◌}
 use Prim.Native.Nat.{ℕ, suc, ◌+◌, ◌-◌, ◌*◌, ◌≤◌, ◌<◌}
 use native.Mathlib.Nat.{add-zero}
@@ -9,7 +9,7 @@ use native.Mathlib.Omega.{arith}
 use borrow.Author.Tests.{eq-eqb, ne_eqb}
 use lib.ListN.{length, get_or, drop}
 use lib.Seq.{drop-cons, get_or-drop}
-use Rattle.cells.proofs.Bools.{and_false}
+use Rattle.cells.proofs.Bools.{and_true}
 use Rattle.rules.specs.Rule.{keeps}
 use Rattle.record.specs.Fields.{Optional}
 use Rattle.record.specs.Read.{entry_width}
@@ -17,7 +17,10 @@ use Rattle.writing.specs.Write.{entry_of, entries, optional_in, optional_of}
 use Rattle.writing.specs.declared.entries.Entry.{Entry}
 use Rattle.writing.proofs.Halves.{entries_length, fields_length, fields_drop}
 use Rattle.writing.proofs.Tables.{entry_from, entries_first, entries_end}
-use Rattle.parts.specs.Loops.{loop, loop_fields, part_id, no_member, is_member, is_loop, others_in}
+use Rattle.rules.specs.declared.rule.Texts.TheVariants.{NetPrice, ListPrice}
+use Rattle.rules.specs.declared.rule.Rule.TheVariants.{Free, OneOf}
+use Rattle.parts.specs.Named.{is_price}
+use Rattle.parts.specs.Loops.{◌asks◌, loop, loop_fields, part_id, no_member, is_member, is_loop, others_in}
 use Rattle.parts.specs.Part.{no_optional}
 use Rattle.parts.specs.Entries.{others_among}
 
@@ -36,37 +39,36 @@ field_at contents count i table h =
 pub fields_long : (contents : List ℕ) (count : ℕ) (table : List ℕ) → length (optional_of contents (entries count table)) ≡ count
 fields_long contents count table = rw (fields_length, entries_length)
 
-module _ (i : ℕ) (fs : List Optional) where
-  -- the fields from one with an index on are the members from there on where it is its member, and those behind it are theirs
-  here : i < loop_fields → i < length fs
-      → is_loop (drop i loop) (drop i fs) ≡ is_member (get_or loop i no_member) (get_or fs i no_optional) && is_loop (drop (i + 1) loop) (drop (i + 1) fs)
-  unfolding is_loop loop
-  here h l = rw (add-one, drop-cons loop i no_member h, drop-cons fs i no_optional l)
+-- tests that hold together do so in any order of taking them together
+gather : (a b c d e f g h i j : Bool)
+    → a && (b && (c && (d && (e && (f && (g && (h && (i && (j && true))))))))) ≡ a && ((b && (c && d)) && ((e && (f && g)) && (h && (i && j))))
+gather false b c d e f g h i j = refl
+gather true false c d e f g h i j = refl
+gather true true false d e f g h i j = refl
+gather true true true false e f g h i j = refl
+gather true true true true false f g h i j = refl
+gather true true true true true false g h i j = refl
+gather true true true true true true false h i j = refl
+gather true true true true true true true h i j = rw and_true
 
-  -- another ID, and another content than the loop asks for
-  pub other_id : i < loop_fields → i < length fs → ((get_or fs i no_optional).id ≡ (get_or loop i no_member).id → ⊥)
-      → is_loop (drop i loop) (drop i fs) ≡ false
-  unfolding is_member
-  other_id h l n = rw (here h l, ne_eqb _ _ n)
+-- ten fields are a loop where each is its member
+ten : (a b c d e f g h i j : Optional) → let fs = a ∷ b ∷ c ∷ d ∷ e ∷ f ∷ g ∷ h ∷ i ∷ j ∷ [] in
+    is_loop loop fs ≡ is_member (1019 asks Free) a && (is_price 1 NetPrice fs && (is_price 4 ListPrice fs && (is_member (1101 asks Free) h && (is_member (1102 asks Free) i && is_member (1151 asks Free) j))))
+unfolding is_loop loop
+ten a b c d e f g h i j =
+    gather (is_member (1019 asks Free) a) (is_member (1029 asks Free) b) (is_member (1030 asks OneOf NetPrice) c) (is_member (1032 asks Free) d)
+    (is_member (1029 asks Free) e) (is_member (1030 asks OneOf ListPrice) f) (is_member (1032 asks Free) g) (is_member (1101 asks Free) h)
+    (is_member (1102 asks Free) i) (is_member (1151 asks Free) j)
 
-  pub not_asked : i < loop_fields → i < length fs → keeps (get_or loop i no_member).rule [] (get_or fs i no_optional).content ≡ false
-      → is_loop (drop i loop) (drop i fs) ≡ false
-  unfolding is_member
-  not_asked h l n = rw (here h l, n, and_false)
-
-  -- or the loop goes on with the next field
-  pub member_passed : i < loop_fields → i < length fs → (get_or fs i no_optional).id ≡ (get_or loop i no_member).id
-      → keeps (get_or loop i no_member).rule [] (get_or fs i no_optional).content ≡ true
-      → is_loop (drop i loop) (drop i fs) ≡ is_loop (drop (i + 1) loop) (drop (i + 1) fs)
-  unfolding is_member
-  member_passed h l m a = rw (here h l, eq-eqb _ _ m, a)
-
-  -- with no member left it is whole
-  pub loop_end : i ≡ loop_fields → is_loop (drop i loop) (drop i fs) ≡ true
-  unfolding is_loop loop
-  loop_end e = rw e
-
-pub ruleset loop_judged = (fields_long, other_id, not_asked, member_passed, loop_end)
+-- so it is with the first ten that a table names
+pub loop_is : (contents table : List ℕ) → let fs = optional_of contents (entries loop_fields table) in
+    is_loop loop fs
+    ≡ is_member (1019 asks Free) (get_or fs 0 no_optional)
+    && (is_price 1 NetPrice fs
+    && (is_price 4 ListPrice fs
+    && (is_member (1101 asks Free) (get_or fs 7 no_optional) && (is_member (1102 asks Free) (get_or fs 8 no_optional) && is_member (1151 asks Free) (get_or fs 9 no_optional)))))
+unfolding optional_of entries
+loop_is contents table = ten _ _ _ _ _ _ _ _ _ _
 
 -- as many fields stand before the loops as entries do
 pub others_named : (contents : List ℕ) (es : List Entry) → others_in (optional_of contents es) ≡ others_among es

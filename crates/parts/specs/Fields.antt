@@ -3,8 +3,7 @@ use Rattle.std.specs.Prelude.{ℕ, zero, suc, ◌+◌, Bool, List, [], ◌∷◌
 use Rattle.cells.specs.Bytes.{pick, bytes}
 use Rattle.record.specs.Fields.{Optional}
 use Rattle.writing.specs.Digits.{unwritable, number_bytes}
-use Rattle.parts.specs.Loops.{loop}
-use Rattle.parts.specs.declared.loops.Member.{Member}
+use Rattle.parts.specs.Loops.{Member, loop}
 use Rattle.parts.specs.Part.{most_digits, article_width, part_width, medium_at, is_medium, lent_part}
 use Rattle.parts.specs.declared.part.Medium.{Medium}
 use Rattle.parts.specs.declared.part.Medium.TheVariants.{Physical, Digital}

@@ -8,7 +8,6 @@ use Rattle.rules.specs.declared.rule.Rule.{Rule}
 use Rattle.rules.specs.declared.rule.Rule.TheVariants.{Free, OneOf}
 use Rattle.record.specs.Layout.{kind_width}
 use Rattle.record.specs.Fields.{Optional}
-use Rattle.parts.specs.declared.loops.Member.{Member}
 
 -- where the tax mark of a delivery stands, and the mark of a bundle, 6
 abbrev pub tax_place : ℕ
@@ -23,6 +22,10 @@ is_bundle s = same (slice 0 kind_width s) (bytes "L101") && eqb (get_or s tax_pl
 
 -- a field of a loop: its ID, and what the loop asks of its content beside the table of contents
 infix 70 ◌asks◌
+pub record Member : Type 0 where
+  pub id : ℕ
+  pub rule : Rule
+
 abbrev pub ◌asks◌ : ℕ → Rule → Member
 i asks r = record { id = i; rule = r }
 

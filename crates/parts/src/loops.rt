@@ -1,11 +1,11 @@
 // The loop that a part is, as data, and loops in a table of fields.
-ghost use Rattle.std.specs.Prelude.{◌≡◌, [], ◌*◌, ◌≤◌, ◌<◌, length, get_or, take, drop};
-ghost use Rattle.rules.specs.Rule.{keeps};
+ghost use Rattle.std.specs.Prelude.{◌≡◌, ◌+◌, ◌*◌, ◌≤◌, ◌<◌, length, get_or, take, drop};
+ghost use Rattle.rules.specs.declared.rule.Rule.TheVariants.{Free};
 ghost use Rattle.record.specs.Read.{entry_width};
 ghost use Rattle.writing.specs.Write.{entries};
-ghost use Rattle.parts.specs.Loops.{is_bundle, loop, loop_fields, no_member, is_loop, are_loops};
+ghost use Rattle.parts.specs.Loops.{◌asks◌, is_bundle, loop, loop_fields, is_member, is_loop, are_loops};
 ghost use Rattle.parts.specs.Entries.{others_among};
-ghost use Rattle.parts.specs.Named.{fields_of};
+ghost use Rattle.parts.specs.Named.{fields_of, is_price};
 ghost use Rattle.parts.specs.Part.{no_optional, text_of};
 
 use crate::table::{Loop, Loops};
@@ -13,7 +13,7 @@ use cells::{part, same};
 use record::fields::ENTRY_WIDTH;
 use record::layout::KIND_WIDTH;
 use record::places::TAX;
-use rules::rule::{Rule, Texts, keeps_rule};
+use rules::rule::{Texts, is_one_of};
 
 // The fields of a loop.
 pub const LOOP_FIELDS: usize = 10;
@@ -36,57 +36,6 @@ pub const MOST_PARTS: usize = 8;
 
 const BUNDLE_MARK: u8 = 54;
 
-// A field of a loop: its ID, and what the loop asks of its content beside the table of contents.
-#[derive(Clone, Copy, PartialEq, Eq, Debug)]
-pub struct Member {
-    pub id: usize,
-    pub rule: Rule,
-}
-
-// The fields of a loop: tax mark; amount, qualifier and currency of the net price, and of the list price; article and its qualifier; medium.
-const LOOP: [Member; LOOP_FIELDS] = [
-    Member {
-        id: PART_ID,
-        rule: Rule::Free,
-    },
-    Member {
-        id: AMOUNT_ID,
-        rule: Rule::Free,
-    },
-    Member {
-        id: PRICE_QUALIFIER_ID,
-        rule: Rule::OneOf(Texts::NetPrice),
-    },
-    Member {
-        id: CURRENCY_ID,
-        rule: Rule::Free,
-    },
-    Member {
-        id: AMOUNT_ID,
-        rule: Rule::Free,
-    },
-    Member {
-        id: PRICE_QUALIFIER_ID,
-        rule: Rule::OneOf(Texts::ListPrice),
-    },
-    Member {
-        id: CURRENCY_ID,
-        rule: Rule::Free,
-    },
-    Member {
-        id: ARTICLE_ID,
-        rule: Rule::Free,
-    },
-    Member {
-        id: ARTICLE_QUALIFIER_ID,
-        rule: Rule::Free,
-    },
-    Member {
-        id: MEDIUM_ID,
-        rule: Rule::Free,
-    },
-];
-
 // Whether a record is an L101 with tax mark 6.
 #[tactic(auto, unfolding(crate::specs::Loops::is_bundle))]
 pub fn is_bundle(s: &[u8]) -> bool
@@ -99,14 +48,6 @@ pub fn is_bundle(s: &[u8]) -> bool
         return false;
     }
     same(part(s, 0, KIND_WIDTH), b"L101")
-}
-
-// The field of a loop with an index.
-fn member_at(i: usize) -> Member
-    requires { i < loop_fields }
-    ensures { result ≡ get_or loop i no_member }
-{
-    LOOP[i]
 }
 
 impl<'a> Loop<'a> {
@@ -128,21 +69,41 @@ impl<'a> Loop<'a> {
         self.fields.content(i)
     }
 
-    // Whether the fields are a loop.
-    #[tactic(auto, unfolding(crate::specs::Part::text_of), using(crate::proofs::Members::loop_judged))]
+    // Whether the field with an index has an ID.
+    #[tactic(auto, unfolding(crate::specs::Loops::is_member, rules::specs::Rule::keeps), using(cells::proofs::Bools::and_true))]
+    fn has(self, i: usize, id: usize) -> bool
+        requires { i < loop_fields }
+        ensures { result ≡ is_member (id asks Free) (get_or (fields_of self.entry.fields) i no_optional) }
+    {
+        self.id(i) == id
+    }
+
+    // Whether the three fields from an index on are a price, with one of the texts as its qualifier.
+    #[tactic(auto, unfolding(crate::specs::Loops::is_member, crate::specs::Part::text_of, rules::specs::Rule::keeps))]
+    fn is_price(self, i: usize, qualifiers: Texts) -> bool
+        requires { i + 2 < loop_fields }
+        ensures { result ≡ is_price i qualifiers (fields_of self.entry.fields) }
+    {
+        let qualified = (self.id(i + 1) == PRICE_QUALIFIER_ID)
+            & is_one_of(qualifiers, self.text(i + 1));
+        self.has(i, AMOUNT_ID) & (qualified & self.has(i + 2, CURRENCY_ID))
+    }
+
+    // Whether the fields are a loop: tax mark, net price, list price, article and its qualifier, medium.
+    #[tactic(auto, using(crate::proofs::Members::loop_is))]
     pub fn is_loop(self) -> bool
         ensures { result ≡ is_loop loop (fields_of self.entry.fields) }
     {
-        for i in 0..LOOP_FIELDS {
-            let member = member_at(i);
-            if self.id(i) != member.id {
-                return false;
-            }
-            if !keeps_rule(member.rule, b"", 0, self.text(i)) {
-                return false;
-            }
+        if !self.has(0, PART_ID) {
+            return false;
         }
-        true
+        if !self.is_price(1, Texts::NetPrice) {
+            return false;
+        }
+        if !self.is_price(4, Texts::ListPrice) {
+            return false;
+        }
+        self.has(7, ARTICLE_ID) & (self.has(8, ARTICLE_QUALIFIER_ID) & self.has(9, MEDIUM_ID))
     }
 }
 

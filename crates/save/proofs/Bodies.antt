@@ -4,16 +4,13 @@ use mathlib.Core.List.{List}
 use Prim.Native.Nat.{ℕ, suc, ◌+◌, ◌*◌, ◌≤◌, ◌<◌}
 use native.Mathlib.Nat.{mul-suc, mul-le-mul_left}
 use native.Mathlib.Omega.{arith}
-use lib.ListN.{length, take}
-use lib.Seq.{length-slice, length-take-le}
-use Rattle.cells.specs.Little.{le_at}
-use Rattle.entry.specs.Stored.{key_width, message_at, slip_key_width}
-use Rattle.save.specs.Form.{front_width, line_body_width, front_of, saved_line_width, slips_at}
+use lib.ListN.{length}
+use lib.Seq.{length-slice}
+use Rattle.save.specs.Form.{front_width, line_body_width, saved_line_width, slips_at}
 use Rattle.save.specs.Saved.{slip_body_width, saved_slip_width, body_in, line_in, slip_in}
 use Rattle.save.specs.declared.form.Form.{Form}
 use Rattle.save.specs.declared.form.Form.TheVariants.{Old, New}
-use Rattle.cells.proofs.Within.{number_within}
-use Rattle.save.proofs.Fronts.{front_kept, front_wide, take_same}
+use Rattle.save.proofs.Fronts.{front_wide}
 
 -- an entry of a width before the n-th ends where that begins, at the latest
 pub entry_before : (w i n : ℕ) → i < n → w * i + w ≤ w * n
@@ -47,25 +44,7 @@ module _ (form : Form) (s : List ℕ) (i : ℕ) (h : saved_line_width form * i +
   unfolding line_in
   line_long = front_wide form (body_in form s i) body_long
 
-  -- its key is that of its body
-  pub line_key : take key_width (line_in form s i) ≡ take key_width (body_in form s i)
-  unfolding line_in
-  line_key = take_same (front_of form (body_in form s i)) (body_in form s i) message_at (front_kept form (body_in form s i) body_long) key_width (omega arith)
-
-  pub line_key_long : length (take key_width (line_in form s i)) ≡ key_width
-  line_key_long = length-take-le key_width (line_in form s i) (omega (arith, line_long))
-
 -- the body of a slip that stands in the save
 pub slip_long : (s : List ℕ) (at j : ℕ) → at + saved_slip_width * j + saved_slip_width ≤ length s → length (slip_in s at j) ≡ slip_body_width
 unfolding slip_in
 slip_long s at j h = length-slice (at + saved_slip_width * j + 1) (at + saved_slip_width * j + saved_slip_width) s h ∙ omega arith
-
--- and how long its key is
-pub slip_key_long : (s : List ℕ) (at j : ℕ) → at + saved_slip_width * j + saved_slip_width ≤ length s → length (take slip_key_width (slip_in s at j)) ≡ slip_key_width
-slip_key_long s at j h = length-take-le slip_key_width (slip_in s at j) (omega (arith, slip_long s at j h))
-
--- a number of two bytes in a slip's body, read in the save
-pub slip_number_law : (s : List ℕ) (at j k : ℕ) → k + 2 ≤ slip_body_width → le_at (slip_in s at j) k 2 ≡ le_at s (at + saved_slip_width * j + 1 + k) 2
-unfolding slip_in
-slip_number_law s at j k h =
-    number_within s (at + saved_slip_width * j + 1) (at + saved_slip_width * j + saved_slip_width) k 2 (omega arith)

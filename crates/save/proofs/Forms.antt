@@ -1,52 +1,28 @@
--- Bytes judged as a save of a form, test by test; and that a save is of the form by which it is taken.
+-- Bytes that are a save of a form: how long they are, and that a save is of the form by which it is taken.
 use mathlib.Core.Path.{◌≡◌, ◌∙◌, sym, refl}
 use mathlib.Core.Bool.{Bool, true, false, ◌&&◌, ◌||◌}
 use mathlib.Core.List.{List}
-use Prim.Native.Nat.{ℕ, ◌+◌, ◌*◌, ◌-◌, ◌≤◌, ◌<◌}
+use Prim.Native.Nat.{ℕ, ◌+◌, ◌*◌, ◌<◌}
 use native.Mathlib.Nat.{mul-zero}
 use native.Mathlib.Omega.{arith}
-use borrow.Author.Tests.{le-leb, lt-leb, eqb-true, eqb-false}
+use borrow.Author.Tests.{eqb-true, eqb-false}
 use lib.Dec.{eqb, leb}
 use lib.ListN.{length, get_or}
 use Rattle.cells.specs.Bytes.{pick}
-use Rattle.cells.specs.Little.{le_at}
 use Rattle.cells.specs.Search.{all_from}
 use Rattle.cells.proofs.Bools.{split, and_left, and_right, or_false}
 use Rattle.cells.proofs.Searches.{all_at}
 use Rattle.save.specs.Form.{line_kind, saved_line_width, slips_at}
-use Rattle.save.specs.Entries.{lines_kept, slips_kept, sums_kept, entries_kept}
+use Rattle.save.specs.Entries.{entries_kept}
 use Rattle.save.specs.Saved.{slip_kind, saved_slip_width, end_kind, end_width, saved_width, stated_lines, stated_slips, line_in, slip_in, all_of_kind, in_form, is_save_of, is_save, form_in}
 use Rattle.save.specs.declared.form.Form.{Form}
 use Rattle.save.specs.declared.form.Form.TheVariants.{Old, New}
 use Rattle.save.proofs.Views.{entries_same}
 
--- the tests of bytes that state n lines and m slips
-abbrev pub tests : Form → ℕ → ℕ → List ℕ → Bool
-tests form n m s =
-    in_form form n m s && (lines_kept n (line_in form s) && (slips_kept n m (line_in form s) (slip_in s (slips_at form n)) && sums_kept n m (slip_in s (slips_at form n))))
-
--- bytes too few for an end are no save
-pub too_short : (form : Form) (s : List ℕ) → length s < end_width → is_save_of form s ≡ false
-unfolding is_save_of
-too_short form s h = rw (lt-leb end_width (length s) h) refl
-
--- bytes that are enough for an end are a save by these tests
-pub save_tests : (form : Form) (n m : ℕ) (s : List ℕ) → end_width ≤ length s → n ≡ le_at s (length s - 4) 2 → m ≡ le_at s (length s - 2) 2 → is_save_of form s ≡ tests form n m s
-unfolding is_save_of stated_lines stated_slips entries_kept
-save_tests form n m s h p q = rw (le-leb end_width (length s) h, p, q) refl
-
 -- bytes in form hold their lines, slips and end
 pub form_long : (form : Form) (n m : ℕ) (s : List ℕ) → in_form form n m s ≡ true → length s ≡ slips_at form n + saved_slip_width * m + end_width
 unfolding in_form saved_width
 form_long form n m s h = eqb-true _ _ (and_left (eqb (length s) (slips_at form n + saved_slip_width * m + end_width)) _ h)
-
--- so do those of a valid save
-pub save_long : (form : Form) (s : List ℕ) → is_save_of form s ≡ true → length s ≡ slips_at form (stated_lines s) + saved_slip_width * stated_slips s + end_width
-unfolding is_save_of
-save_long form s h =
-    let n : ℕ = stated_lines s in
-    let m : ℕ = stated_slips s in
-    form_long form n m s (and_left (in_form form n m s) _ (and_right (leb end_width (length s)) _ h))
 
 -- without lines the slips stand first, in either form
 no_lines_at : (form : Form) → slips_at form 0 ≡ 0

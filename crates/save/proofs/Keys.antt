@@ -4,37 +4,26 @@ use mathlib.Core.Bool.{Bool, true, false, not, ◌&&◌, false≢true}
 use mathlib.Core.List.{List, [], ◌∷◌}
 use Prim.Native.Nat.{ℕ, suc, ◌+◌, ◌≤◌, ◌<◌}
 use native.Mathlib.Omega.{arith}
-use borrow.Author.Tests.{ne_eqb, ltb-true}
+use borrow.Author.Tests.{ltb-true}
 use lib.Dec.{eqb, ltb}
-use lib.ListN.{length, take}
+use lib.ListN.{take}
 use lib.Seq.{slice, drop-drop, take-take}
-use Rattle.cells.specs.Bytes.{pick, among, run, within, same}
+use Rattle.cells.specs.Bytes.{pick, among, within, same}
 use Rattle.cells.proofs.Bools.{and_left, and_right}
 use Rattle.cells.proofs.Lists.{same_true}
 use Rattle.cells.proofs.Parts.{take_from, slice_drop}
 use Rattle.cells.proofs.Searches.{all_at}
 use Rattle.cells.proofs.Within.{part_within}
 use Rattle.rules.specs.Article.{article}
-use Rattle.signs.specs.Class.{belongs, all_of, of_class, padded, named}
+use Rattle.signs.specs.Class.{all_of, of_class, padded, named}
 use Rattle.rules.specs.Day.{is_day}
 use Rattle.rules.specs.Rule.{texts, keeps}
 use Rattle.signs.specs.declared.Class.TheVariants.{Any, Allowed, Digit, Account, Blank}
 use Rattle.rules.specs.declared.rule.Texts.TheVariants.{Party, Numbering}
-use Rattle.signs.proofs.Runs.{all_run, run_all}
 use Rattle.record.specs.Layout.{layout, first_broken}
 use Rattle.book.specs.Booking.{key_fields, article_fields, slip_fields}
 use Rattle.entry.specs.Stored.{key_width, ordered_at, slip_key_width, most_copies}
 use Rattle.save.specs.Entries.{reference_at, slip_number_at, line_fields, goods_fields, fields_kept, line_kept, parties_agree, line_index, slip_copies, slip_kept, slip_named, is_first, lines_kept}
-
--- a run of allowed bytes that is not the whole: not all are allowed
-pub some_barred : {n : ℕ} (s : List ℕ) → n ≡ run (belongs Allowed) s → (n ≡ length s → ⊥) → all_of Allowed s ≡ false
-unfolding all_of
-some_barred {n} s e h = all_run (belongs Allowed) s ∙ rw (← e) (ne_eqb n (length s) h)
-
--- else all are
-pub all_allowed : {n : ℕ} (s : List ℕ) → n ≡ run (belongs Allowed) s → n ≡ length s → all_of Allowed s ≡ true
-unfolding all_of
-all_allowed {n} s e h = run_all (belongs Allowed) s (sym e ∙ h)
 
 -- the first test that fails of four is none of them: all hold
 four : (a b c d : Bool) → eqb (pick a (suc (pick b (suc (pick c (suc (pick d 1 0)) 0)) 0)) 0) 4 ≡ (a && b) && (c && d)

@@ -27,22 +27,22 @@ use Rattle.writing.proofs.Widths.{record_wide, capped_judged}
 
 -- a test that refuses where it holds, or where it does not, and does not refuse
 refuses_true : (b : Bool) (r : Refusal) (v : Verdict) (n : ℕ) → pick b (Err r) v ≡ Ok n → (b ≡ false) × (v ≡ Ok n)
-refuses_true true r v n e = let z : ◌≡◌ {A = ℕ} 0 1 = cc in absurd (omega arith)
+refuses_true true r v n e = absurd (cc)
 refuses_true false r v n e = (refl, e)
 
 pub refuses_false : (b : Bool) (v : Verdict) (r : Refusal) (n : ℕ) → pick b v (Err r) ≡ Ok n → (b ≡ true) × (v ≡ Ok n)
 refuses_false true v r n e = (refl, e)
-refuses_false false v r n e = let z : ◌≡◌ {A = ℕ} 0 1 = cc in absurd (omega arith)
+refuses_false false v r n e = absurd (cc)
 
 -- a verdict that fits after a stage: the stage fits too, and so does the rest
 then_first : (a b : Verdict) (n : ℕ) → (a next b) ≡ Ok n → (m : ℕ) × (a ≡ Ok m)
 unfolding ◌next◌
-then_first (Err r) b n e = let z : ◌≡◌ {A = ℕ} 0 1 = cc in absurd (omega arith)
+then_first (Err r) b n e = absurd (cc)
 then_first (Ok m) b n e = (m, refl)
 
 then_second : (a b : Verdict) (n : ℕ) → (a next b) ≡ Ok n → b ≡ Ok n
 unfolding ◌next◌
-then_second (Err r) b n e = let z : ◌≡◌ {A = ℕ} 0 1 = cc in absurd (omega arith)
+then_second (Err r) b n e = absurd (cc)
 then_second (Ok m) b n e = e
 
 -- fields that fit: each content stands inside the lent bytes
@@ -59,7 +59,7 @@ fields_inside k contents before i (e ∷ es) m h =
 pub fixed_known : (j : Option Kind) (fixed : List ℕ) (m : ℕ) → fixed_judged j fixed ≡ Ok m
     → (k : Kind) × (j ≡ Some k) × (length fixed ≡ fixed_width k) × (first_faulty k fixed ≡ length (layout k))
 unfolding fixed_judged
-fixed_known None fixed m e = let z : ◌≡◌ {A = ℕ} 0 1 = cc in absurd (omega arith)
+fixed_known None fixed m e = absurd (cc)
 fixed_known (Some k) fixed m e =
     let a = refuses_false (eqb (length fixed) (fixed_width k)) _ _ m e in
     let b = refuses_false (eqb (first_faulty k fixed) (length (layout k))) _ _ m a.1 in

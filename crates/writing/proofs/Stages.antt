@@ -41,21 +41,12 @@ module _ (k : Kind) (fixed table : List ℕ) (count : ℕ) (contents out : List 
 
 -- 5, then the rest
 module _ (fixed table : List ℕ) (count : ℕ) (contents out : List ℕ) where
-  pub fixed_refused : (r : Refusal) → fixed_judged (kind_of fixed) fixed ≡ Err r → write_judged fixed table count contents out ≡ Err r
-  unfolding write_judged ◌next◌
-  fixed_refused r e = rw e
-
   pub fixed_passed : (m : ℕ) → fixed_judged (kind_of fixed) fixed ≡ Ok m
       → write_judged fixed table count contents out ≡ rest_judged (kind_of fixed) fixed table count contents out
   unfolding write_judged ◌next◌
   fixed_passed m e = rw e
 
   -- what is said and what stands in the output afterwards
-  pub write_refused : (r : Refusal) → write_judged fixed table count contents out ≡ Err r
-      → write fixed table count contents out ≡ outcome (written_of (Err r)) out
-  unfolding write output_after
-  write_refused r e = rw e
-
   pub write_fits : (n : ℕ) → write_judged fixed table count contents out ≡ Ok n
       → write fixed table count contents out ≡ outcome (written_of (Ok n)) (record_text fixed (optional_of contents (entries count table)) ++ drop n out)
   unfolding write output_after

@@ -14,7 +14,6 @@ use Rattle.record.specs.declared.layout.Kind.{Kind}
 use Rattle.writing.specs.Write.{entry_of, entries, next_id, entry_kept, fields_judged}
 use Rattle.writing.specs.declared.answer.Refusal.TheVariants.{Content, Group}
 use Rattle.std.specs.Prelude.{Err, Ok, Option, Some}
-use Rattle.writing.specs.declared.entries.Entry.{Entry}
 
 -- the entry that stands at a place of a table
 pub entry_from : (at : ℕ) (table : List ℕ)
@@ -49,11 +48,6 @@ entries_end count i table h =
 pub next_last : (count i : ℕ) (table : List ℕ) → count ≤ i → next_id (entries (count - i) table) ≡ last_id
 unfolding next_id
 next_last count i table h = rw (entries_end count i table h)
-
--- the entry with index i, which stands in front of those that are left
-pub entry_here : (count i : ℕ) (table : List ℕ) → i < count → (e : Entry) → e ≡ entry_of (drop (i * entry_width) table)
-    → entries (count - i) (drop (i * entry_width) table) ≡ e ∷ entries (count - (i + 1)) (drop ((i + 1) * entry_width) table)
-entry_here count i table h e q = rw q (entries_first count i table h)
 
 -- judged as a field: its content cannot stand, its group is broken, or the fields after it are judged
 module _ (k : Kind) (contents : List ℕ) (before : Option ℕ) (i count : ℕ) (table : List ℕ) where

@@ -16,9 +16,9 @@ returns c =
     (filled_next c.paste_at.ensures refl
     (filled_two {v = 10} {w = 2} c.put_party.ensures (omega arith) (omega arith)
     (filled_two {v = 10} {w = 2} c.put_party-2.ensures (omega arith) (omega arith)
-    (filled_next c.put_delivery_day.ensures (delivery_day_length _)
-    (filled_next {w = 10} c.paste_at-2.ensures (omega arith)
-    (filled_next {w = 4} c.paste_at-3.ensures (omega arith)
-    (filled_next {w = 10} c.paste_at-4.ensures (omega arith)
+    (filled_next (rw c.delivery_day_bytes.ensures at c.paste_at-2.ensures) (delivery_day_length _)
+    (filled_next {w = 10} c.paste_at-3.ensures (omega arith)
+    (filled_next {w = 4} c.paste_at-4.ensures (omega arith)
+    (filled_next {w = 10} c.paste_at-5.ensures (omega arith)
     (filled_two {v = 13} {w = 2} c.put_article.ensures (omega arith) (omega arith)
     (filled_last {w = 33} c.put_amounts.ensures (grind (arith, common_steps, number_length)))))))))))

@@ -14,8 +14,8 @@ returns c =
     (filled_next c.paste_at.ensures refl
     (filled_two {v = 10} {w = 2} c.put_party.ensures (omega arith) (omega arith)
     (filled_two {v = 10} {w = 2} c.put_party-2.ensures (omega arith) (omega arith)
-    (filled_next c.put_day.ensures (day_length _)
-    (filled_next {w = 10} c.paste_at-2.ensures (omega arith)
+    (filled_next (rw c.day_bytes.ensures at c.paste_at-2.ensures) (day_length _)
+    (filled_next {w = 10} c.paste_at-3.ensures (omega arith)
     (filled_two {v = 13} {w = 2} c.put_article.ensures (omega arith) (omega arith)
     (filled_next c.put_number.ensures (number_length 4 _)
-    (filled_next {w = 2} c.paste_at-3.ensures (omega arith) filled_end))))))))
+    (filled_next {w = 2} c.paste_at-4.ensures (omega arith) filled_end))))))))

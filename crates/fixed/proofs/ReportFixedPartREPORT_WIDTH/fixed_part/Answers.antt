@@ -19,5 +19,5 @@ returns c =
     (filled_two {v = 13} {w = 2} c.put_article.ensures (omega arith) (omega arith)
     (filled_next c.put_number.ensures (number_length 3 _)
     (filled_next c.put_byte.ensures refl
-    (filled_next c.put_expected.ensures (expected_length _)
-    (filled_next c.paste_at-4.ensures refl filled_end))))))))))
+    (filled_next (rw c.expected_bytes.ensures at c.paste_at-4.ensures) (expected_length _)
+    (filled_next c.paste_at-5.ensures refl filled_end))))))))))

@@ -1,5 +1,5 @@
 -- The entries that are left give the same result as all of them.
-use Rattle.std.proofs.Common.{◌≡◌, ◌-◌, ℕ, Bool, List, take}
+use Rattle.std.proofs.Common.{◌≡◌, ◌-◌, take}
 use mathlib.Core.Bool.{not}
 use Rattle.cells.specs.Bytes.{same}
 use Rattle.cells.specs.Search.{all_from}
