@@ -1,4 +1,3 @@
-pub mod Keys
 pub mod Kept
 pub mod Layouts
 pub mod Barred
