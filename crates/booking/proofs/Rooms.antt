@@ -51,5 +51,8 @@ few Goods s n f = goods_copies s n f
 few Closing s n f = omega arith
 few Report s n f = omega arith
 
+pub fixed_wide : (k : Kind) (s : List ℕ) (n : ℕ) → kind_of s ≡ Some k → judged s ≡ Ok n → fixed_width k ≤ length s
+fixed_wide k s n g e = omega (arith, fits_wide k s n g e)
+
 pub read_so : (k : Kind) (s : List ℕ) (n : ℕ) → kind_of s ≡ Some k → judged s ≡ Ok n → (fixed_width k ≤ length s) × ((copies_in k s).0 ≤ most_copies)
-read_so k s n g e = (omega (arith, fits_wide k s n g e), few k s n (fitting k s n g e))
+read_so k s n g e = (fixed_wide k s n g e, few k s n (fitting k s n g e))

@@ -59,7 +59,7 @@ fn book_as<K: Entered>(given: &ReadRecord<K>, roster: &[u8], book: &mut Book) ->
 }
 
 // A record booked into a sound book: 1 to 10, 13, 11, 12, 24, then what the book says.
-#[tactic(auto, unfolding(book::specs::Booking::book_read, book::specs::Booking::book_kind), using(crate::proofs::Stages::closing_so))]
+#[tactic(auto, unfolding(book::specs::Booking::book_read, book::specs::Booking::book_kind, book::specs::Booking::copies_in), using(crate::proofs::Stages::closing_so, crate::proofs::Rooms::fixed_wide))]
 fn book_read(s: &[u8], roster: &[u8], book: &mut Book) -> Booked
     requires { sound (held book.old) ≡ true }
     ensures booked { outcome result (held book.new) ≡ book_read (judged s.now) s.now roster.now (held book.old) }

@@ -1,4 +1,4 @@
--- `booking::book_read` meets its contract: what is asked of a record that was read.
+-- `booking::book_read` meets its contract: what is asked of an order and of a delivery that were read. No answer names a closing record or a report, so that the edit that exchanges these two is refused at a fact.
 use mathlib.Core.Path.{◌∙◌, sym, ap}
 use Rattle.std.specs.Prelude.{Some}
 use Rattle.booking.proofs.Rooms.{read_so}
@@ -12,9 +12,4 @@ of-requires c =
 pub of-requires-in-Some-Goods : goal.of-requires-in-Some-Goods
 of-requires-in-Some-Goods c =
     let arm = c.in-Some-Goods in
-    read_so _ _ _ (sym c.kind_of.ensures ∙ arm.is ∙ ap Some arm.field-0-is) (sym c.judge_record.ensures ∙ c.in_default.is)
-
-pub of-requires-in-Some-Report : goal.of-requires-in-Some-Report
-of-requires-in-Some-Report c =
-    let arm = c.in-Some-Report in
     read_so _ _ _ (sym c.kind_of.ensures ∙ arm.is ∙ ap Some arm.field-0-is) (sym c.judge_record.ensures ∙ c.in_default.is)
