@@ -41,6 +41,7 @@ fn key_of<'a>(
 }
 
 // The figures of the first line with a key: 20, then 16. A field of another length matches no line.
+// The fields of the key and the rooms stay apart here, as C lends them.
 #[tactic(auto, unfolding(book::specs::Asked::line_asked, book::specs::Asked::figures_of_key, book::specs::Asked::figures_at))]
 pub fn line<'a>(
     school: &'a [u8],

@@ -46,7 +46,7 @@ pub struct Told {
     pub reported: Reported,
 }
 
-// What a booking tells of the articles.
+// What a booking tells of the articles: numbers, since C reads them in `Booked`.
 pub const AGREED: u64 = 1;
 
 pub const NOT_AGREED: u64 = 0;

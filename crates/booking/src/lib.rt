@@ -78,6 +78,7 @@ fn book_read(s: &[u8], roster: &[u8], book: &mut Book) -> Booked
 }
 
 // Books a record that meets a roster: 20, 1 to 10, 13, 11, 12, 24, then what the book says. A refusal changes nothing.
+// Lines, slips and used counts stay apart here, as C lends them.
 #[tactic(auto, unfolding(book::specs::Booking::book))]
 pub fn book(
     s: &[u8],

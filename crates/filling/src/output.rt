@@ -31,7 +31,7 @@ pub fn put_lines(out: &mut [u8], lines: UsedLines)
     fronts::lines::put_lines(out, Form::New, &lines, lines.count);
 }
 
-// The used slips, from a place on: a byte of kind, then the slip.
+// The used slips, from a place on: a byte of kind, then the slip; without that byte they are taken back (`take_slips`), so the two are no one function.
 #[tactic(auto, unfolding(save::specs::Saved::slip_entries, save::specs::Saved::slip_body_at), using(save::proofs::Joined::joined_behind, save::proofs::Joined::joined_end, crate::proofs::Entries::slip_entry_long, cells::proofs::Parts::part_is))]
 pub fn put_slips(out: &mut [u8], start: usize, slips: &[u8], m: usize)
     requires { (slip_width * m ≤ length slips.now) × (start + saved_slip_width * m ≤ length out.old) }

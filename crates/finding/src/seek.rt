@@ -106,7 +106,7 @@ pub fn is_room(width: usize, most: usize, n: usize) -> bool
     (n % width == 0) & ((1 <= n / width) & (n / width <= most))
 }
 
-// Whether a lent book is sound.
+// Whether a lent book is sound. Lines and slips are judged by loops of their own, since each kind of entry has its own rule.
 #[tactic(auto, unfolding(book::specs::Lent::sound, book::specs::Lent::rooms_sound, book::specs::Lent::used_lines, book::specs::Lent::used_slips, book::specs::Lent::line_room, book::specs::Lent::slip_room))]
 pub fn is_sound(lines: &[u8], slips: &[u8], used: &[usize; 2]) -> bool
     ensures { result ≡ sound (lent lines.now slips.now used.now) }

@@ -41,7 +41,7 @@ fn own_entry(s: &[u8]) -> [u8; ENTRY_WIDTH]
     entry
 }
 
-// Books a record with a roster of its own entry; of none where it is too short to have one.
+// Books a record with a roster of its own entry; of none where it is too short to have one. It takes the rooms as booking does.
 #[tactic(auto, unfolding(crate::specs::Own::book_own, crate::specs::Own::own_roster), using(cells::proofs::Parts::nothing))]
 pub fn book_own(s: &[u8], lines: &mut [u8], slips: &mut [u8], used: &mut [usize; 2]) -> Booked
     ensures { outcome result (lent lines.new slips.new used.new) ≡ book_own s.now (lent lines.old slips.old used.old) }

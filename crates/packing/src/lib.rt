@@ -48,7 +48,7 @@ fn is_misplaced(fixed: &[u8], table: &[usize], fields: usize, n: usize) -> bool
     has_loop(table, fields)
 }
 
-// Writes a record with n parts at the front of the output, or refuses and changes nothing.
+// Writes a record with n parts at the front of the output, or refuses and changes nothing. What it takes stays apart, as C lends it.
 #[tactic(auto, using(parts::proofs::Stages::staged))]
 pub fn write_parts<'a>(
     fixed: &'a [u8],

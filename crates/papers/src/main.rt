@@ -107,6 +107,7 @@ fn first_line(s: &[u8]) -> (&[u8], &[u8])
     }
 }
 
+// Each line in turn. A loop over what is left: no iterator of std splits at two bytes, and `split` at one would end lines elsewhere.
 fn show_all<W: Write>(out: &mut W, s: &[u8]) -> io::Result<()> {
     let mut rest = s;
     while !rest.is_empty() {

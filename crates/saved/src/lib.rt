@@ -72,7 +72,7 @@ fn kept_lines<'a>(lines: Lines<'a>) -> Option<KeptLines<'a>>
     Some(KeptLines { lines })
 }
 
-// Whether the slips keep the rules by the lines, each with a key of its own.
+// Whether the slips keep the rules by the lines, each with a key of its own. A loop beside that of the lines and that of the sums, since each asks something else of its entry.
 #[tactic(auto, unfolding(save::specs::Entries::slips_kept), using(save::proofs::Walked::walked, save::proofs::Firsts::first_new))]
 fn are_slips_kept(kept: KeptLines, slips: Slips) -> bool
     ensures { result ≡ slips_kept kept.entry.lines.count slips.entry.count (line_in kept.entry.lines.form kept.entry.lines.bytes.now) (slip_in slips.entry.bytes.now slips.entry.at) }

@@ -46,6 +46,7 @@ fn saved_into(lent: LentBook, out: &mut [u8]) -> Result<usize, Refused>
 }
 
 // Saves a lent book at the front of the output, in the new form: 20, 23. A refusal changes nothing.
+// Rooms, counts and output stay apart here and in `load`, as C lends them.
 pub fn save(lines: &[u8], slips: &[u8], used: &[usize; 2], out: &mut [u8]) -> Saved
     ensures { written result out.new ≡ save (lent lines.now slips.now used.now) out.old }
 {

@@ -28,7 +28,7 @@ pub fn judge_length(n: usize, out: &[u8]) -> Verdict
     Ok(n)
 }
 
-// Writes a record at the front of the output, or refuses and changes nothing.
+// Writes a record at the front of the output, or refuses and changes nothing. Its parts stay apart here, as C lends them.
 #[tactic(auto, unfolding(writing::specs::Write::write))]
 pub fn write(
     fixed: &[u8],
