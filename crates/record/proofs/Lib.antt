@@ -1,3 +1,4 @@
+pub mod Keys
 pub mod Kept
 pub mod Layouts
 pub mod Barred

@@ -5,8 +5,8 @@ ghost use Rattle.rules.specs.Rule.{keeps};
 ghost use Rattle.record.specs.Contents.{content_rule, guarded, next_member, previous_member, is_wanted, group_kept};
 
 use crate::layout::Kind;
-use rules::rule::{Rule, Texts, keeps_rule};
-use signs::{Class, belongs_to};
+use rules::rule::{Rule, Texts, is_day, is_day_count, is_one_of};
+use signs::{Class, belongs_to, of_class};
 
 // The rule of an ID's content; an ID not listed is kept with any content.
 #[tactic(auto, unfolding(crate::specs::Contents::content_rule, crate::specs::Contents::contents, crate::specs::Contents::rule_in, crate::specs::Contents::is_in))]
@@ -44,12 +44,18 @@ pub fn content_rule(id: usize) -> Rule
     }
 }
 
-// Whether a content keeps the rule of its ID.
-#[tactic(auto, using(cells::proofs::Parts::past_end))]
+// Whether a content keeps the rule of its ID; no content has one of the other rules. A match of its own: a second caller of `keeps_rule` makes checking and writing a tenth slower (docs/PERFORMANCE.md).
+#[tactic(auto, unfolding(rules::specs::Rule::keeps))]
 pub fn rule_kept(id: usize, content: &[u8]) -> bool
     ensures { result ≡ keeps (content_rule id) [] content.now }
 {
-    keeps_rule(content_rule(id), content, content.len(), content)
+    match content_rule(id) {
+        Rule::Of(c, least, most) => of_class(c, least, most, content),
+        Rule::OneOf(t) => is_one_of(t, content),
+        Rule::DayCount => is_day_count(content),
+        Rule::Date => is_day(content),
+        _ => true,
+    }
 }
 
 // Whether the bytes * + : ? ' may not stand in a field.

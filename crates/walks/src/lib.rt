@@ -16,12 +16,15 @@ use record::layout::{Kind, MOST_FIELDS};
 use rules::number::number_of;
 use signs::{Class, STAR, all_of};
 
-// What stands at a place where an optional field should start.
+// What stands at a place where an optional field should start. With a saturating difference in place of the two tests the compiler no longer sees that there are four digits, and check takes two fifths more instructions.
 #[tactic(auto, using(crate::proofs::Heads::heads))]
 pub fn head_at(s: &[u8], at: usize) -> Option<usize>
     ensures { result ≡ head_of (drop at s.now) }
 {
-    if s.len().saturating_sub(at) < HEAD_WIDTH {
+    if s.len() <= at {
+        return None;
+    }
+    if s.len() - at < HEAD_WIDTH {
         return None;
     }
     if s[at] != STAR {
