@@ -106,7 +106,7 @@ python3 "$here/design_facts.py" . | awk 'END { print "5 facts_in_three_requires"
 
 # 6, 7 and 8, as far as a line can be counted: a length beside an array of bytes in a struct, matches on a kind or a form, lines of proofs.
 lines 6 length_beside_bytes ' (pub )?(length|count|digits): (u8|usize),'
-lines 7 match_on_kind_or_form 'match (k|kind|form|self\.form|self\.kind)\b'
+lines 7 match_on_kind_or_form 'match (k|kind|form|to|[a-z_.]*\.(form|kind)|kind_of\([a-z]+\)) \{'
 lines 7 closures '\|[&a-z_, ]*\| '
 printf '8 answer_files '; find crates/*/proofs -name 'Answers.antt' -path '*/proofs/*/*' | wc -l | tr -d ' '
 printf '8 answer_lines '; find crates/*/proofs -name 'Answers.antt' -path '*/proofs/*/*' -exec cat {} + | wc -l | tr -d ' '
