@@ -1,7 +1,7 @@
 -- A line, or a slip, compared with a key: field by field, and by bytes that tell most keys apart.
 use mathlib.Core.Path.{◌≡◌, ◌∙◌, ap, ap₂, sym, refl}
 use mathlib.Core.Bool.{Bool, true, false, ◌&&◌}
-use mathlib.Core.List.{List, [], ◌++◌, append-nil}
+use mathlib.Core.List.{List, [], ◌∷◌, ◌++◌, append-nil}
 use Prim.Native.Nat.{ℕ, ◌+◌, ◌*◌, ◌^◌, ◌≤◌, ◌<◌}
 use native.Mathlib.Omega.{arith}
 use borrow.Author.Tests.{ne_eqb}
@@ -15,6 +15,7 @@ use Rattle.cells.proofs.Within.{part_within}
 use Rattle.entry.specs.Stored.{line_width, key_width, slip_width, slip_key_width, key_at, key_is, slip_key_at, slip_is}
 use Rattle.entry.specs.Keyed.{keyed}
 use Rattle.entry.specs.declared.line_key.LineKey.{LineKey}
+use Rattle.finding.proofs.Wide.{Wide}
 
 -- a part of a list in which eight bytes are others than in a key is not the key
 pub told_apart : (s key : List ℕ) (at w place x y : ℕ) → place + 8 ≤ w → le_bytes 8 x ≡ slice (at + place) (at + place + 8) s → x < 256 ^ 8
@@ -54,16 +55,30 @@ abbrev pub party_at : List ℕ → ℕ → List ℕ → List ℕ → Bool
 party_at lines at address qualifier = same (slice at (at + 10) lines) address && same (slice (at + 10) (at + 12) lines) qualifier
 
 -- the line with an index has a key just where its fields stand there
+pub key_fields_law : (lines : List ℕ) (i : ℕ) (a b c d e : List ℕ) → line_width * i + line_width ≤ length lines → Wide a b c d e
+    → key_is lines (joined (a ∷ b ∷ c ∷ d ∷ e ∷ [])) i
+    ≡ party_at lines (line_width * i) a b && (party_at lines (line_width * i + 12) c d && same (slice (line_width * i + 24) (line_width * i + 24 + 10) lines) e)
+unfolding key_is key_at joined
+key_fields_law lines i a b c d e h w =
+    let p : ℕ = line_width * i in
+    let second : p + 12 + 12 ≡ p + 24 = omega arith in
+    party_then lines p 22 a b _ (omega arith) w.school_wide w.school_qualified
+    ∙ rw (party_then lines (p + 12) 10 c d (e ++ []) (omega arith) w.supplier_wide w.supplier_qualified, second, append-nil e) refl
+
+-- so it is for the key that the code is given, whose fields have their lengths
 pub key_stands : (lines : List ℕ) (i : ℕ) (k : LineKey) → line_width * i + line_width ≤ length lines
     → key_is lines (keyed k) i
     ≡ party_at lines (line_width * i) k.school.now k.school_qualifier.now
     && (party_at lines (line_width * i + 12) k.supplier.now k.supplier_qualifier.now && same (slice (line_width * i + 24) (line_width * i + 24 + 10) lines) k.reference.now)
-unfolding key_is key_at joined
 key_stands lines i k h =
-    let p : ℕ = line_width * i in
-    let second : p + 12 + 12 ≡ p + 24 = omega arith in
-    party_then lines p 22 k.school.now k.school_qualifier.now _ (omega arith) k.school_wide k.school_qualified
-    ∙ rw (party_then lines (p + 12) 10 k.supplier.now k.supplier_qualifier.now (k.reference.now ++ []) (omega arith) k.supplier_wide k.supplier_qualified, second, append-nil k.reference.now) refl
+    key_fields_law lines i _ _ _ _ _ h
+    (record {
+      school_wide = k.school_wide;
+      school_qualified = k.school_qualified;
+      supplier_wide = k.supplier_wide;
+      supplier_qualified = k.supplier_qualified;
+      reference_wide = k.reference_wide;
+    })
 
 -- what follows the first of two parts of a list
 slice_past : (a rest : List ℕ) (w x y : ℕ) → length a ≡ w → slice (w + x) (w + y) (a ++ rest) ≡ slice x y rest
