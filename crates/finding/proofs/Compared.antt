@@ -5,17 +5,18 @@ use mathlib.Core.List.{List, [], ◌∷◌, ◌++◌, append-nil}
 use Prim.Native.Nat.{ℕ, ◌+◌, ◌*◌, ◌^◌, ◌≤◌, ◌<◌}
 use native.Mathlib.Omega.{arith}
 use borrow.Author.Tests.{ne_eqb}
-use lib.ListN.{length, take, drop}
-use lib.Seq.{slice, take-append-le, take-append-add, drop-append-add}
+use lib.ListN.{length}
+use lib.Seq.{slice}
 use Rattle.cells.specs.Bytes.{same, joined}
 use Rattle.cells.specs.Little.{le_bytes}
 use Rattle.cells.proofs.Lists.{other_part, same_parts}
 use Rattle.cells.proofs.Numbers.{words_same}
 use Rattle.cells.proofs.Within.{part_within}
 use Rattle.entry.specs.Stored.{line_width, key_width, slip_width, slip_key_width, key_at, key_is, slip_key_at, slip_is}
-use Rattle.entry.specs.Keyed.{keyed}
+use Rattle.entry.specs.Keyed.{fields_of, keyed}
 use Rattle.entry.specs.declared.line_key.LineKey.{LineKey}
-use Rattle.finding.proofs.Wide.{Wide}
+use Rattle.book.specs.Asked.{key_widths}
+use Rattle.finding.proofs.Wide.{Wide, field_in, line_key_wide}
 
 -- a part of a list in which eight bytes are others than in a key is not the key
 pub told_apart : (s key : List ℕ) (at w place x y : ℕ) → place + 8 ≤ w → le_bytes 8 x ≡ slice (at + place) (at + place + 8) s → x < 256 ^ 8
@@ -80,22 +81,13 @@ key_stands lines i k h =
       reference_wide = k.reference_wide;
     })
 
--- what follows the first of two parts of a list
-slice_past : (a rest : List ℕ) (w x y : ℕ) → length a ≡ w → slice (w + x) (w + y) (a ++ rest) ≡ slice x y rest
-slice_past a rest w x y e = rw (← e, take-append-add a rest y, drop-append-add a (take y rest) x) refl
+-- the bytes that tell most keys apart, in the key and in its fields
+module _ (k : LineKey) where
+  school_in : slice 0 8 (keyed k) ≡ slice 0 8 k.school.now
+  school_in = field_in key_widths (fields_of k) 0 0 8 (line_key_wide k) (omega arith) (omega arith)
 
-school_in : (k : LineKey) → slice 0 8 (keyed k) ≡ slice 0 8 k.school.now
-unfolding joined
-school_in k = let e : length k.school.now ≡ 10 = k.school_wide in ap (drop 0) (take-append-le 8 k.school.now _ (omega arith))
-
-reference_in : (k : LineKey) → slice 26 34 (keyed k) ≡ slice 2 10 k.reference.now
-unfolding joined
-reference_in k =
-    slice_past k.school.now _ 10 16 24 k.school_wide
-    ∙ slice_past k.school_qualifier.now _ 2 14 22 k.school_qualified
-    ∙ slice_past k.supplier.now _ 10 4 12 k.supplier_wide
-    ∙ slice_past k.supplier_qualifier.now _ 2 2 10 k.supplier_qualified
-    ∙ ap (slice 2 10) (append-nil k.reference.now)
+  reference_in : slice 26 34 (keyed k) ≡ slice 2 10 k.reference.now
+  reference_in = field_in key_widths (fields_of k) 4 2 10 (line_key_wide k) (omega arith) (omega arith)
 
 -- where eight bytes of a key are others, the line has another key
 module _ (lines : List ℕ) (i x y : ℕ) (k : LineKey) where

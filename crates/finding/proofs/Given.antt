@@ -1,4 +1,4 @@
--- A key as the code is given it: an array of references to its fields.
+-- A key as references to its fields, as the code is given it in a `LineKey`.
 use mathlib.Core.Path.{◌≡◌, ◌∙◌, ap, sym, refl}
 use mathlib.Core.Bool.{true, false, ◌&&◌}
 use mathlib.Core.List.{List, [], ◌∷◌, map}
@@ -10,8 +10,10 @@ use lib.Seq.{slice}
 use Rattle.cells.specs.Bytes.{same, joined}
 use Rattle.cells.specs.Little.{le_bytes}
 use Rattle.entry.specs.Stored.{line_width, key_width, key_at, key_is}
+use Rattle.entry.specs.Keyed.{keyed}
+use Rattle.entry.specs.declared.line_key.LineKey.{LineKey}
 use Rattle.book.specs.Asked.{key_widths, are_wide}
-use Rattle.finding.proofs.Wide.{Wide, before, key_wide, field_in, five}
+use Rattle.finding.proofs.Wide.{Wide, before, key_wide, field_in, five, line_key_wide}
 use Rattle.finding.proofs.Compared.{told_apart, party_at, key_fields_law}
 
 -- what lies behind the reference at an index
@@ -51,3 +53,14 @@ module _ (l : List (Bor (List ℕ))) (h : are_wide key_widths (map (λ x. x.now)
         let stands : slice from (from + 8) (field_of l f) ≡ slice place (place + 8) (joined (map (λ x. x.now) l)) =
         ap (slice from (from + 8)) (sym (behind l f)) ∙ sym (field_in key_widths (map (λ x. x.now) l) f from (from + 8) h few room) ∙ ap (λ (n : ℕ). slice place n (joined (map (λ x. x.now) l))) end in
         told_apart lines (joined (map (λ x. x.now) l)) (line_width * i) key_width place x y inside e k (g ∙ stands) m d
+
+-- the references of a line's key
+abbrev pub given : LineKey → List (Bor (List ℕ))
+given k = k.school ∷ k.school_qualifier ∷ k.supplier ∷ k.supplier_qualifier ∷ k.reference ∷ []
+
+-- a line does not have the key where eight bytes of one of its fields are others there
+pub line_key_other : (k : LineKey) (lines : List ℕ) (i f from x y : ℕ) → f < 5 → from + 8 ≤ get_or key_widths f 0 → before key_widths f + from + 8 ≤ key_width → x < 256 ^ 8 → y < 256 ^ 8 → (x ≡ y → ⊥)
+    → le_bytes 8 x ≡ slice (line_width * i + (before key_widths f + from)) (line_width * i + (before key_widths f + from) + 8) lines
+    → le_bytes 8 y ≡ slice from (from + 8) (field_of (given k) f)
+    → key_is lines (keyed k) i ≡ false
+line_key_other k = field_other (given k) (line_key_wide k)

@@ -6,11 +6,13 @@ use Prim.Native.Nat.{ℕ, zero, suc, ◌+◌, ◌≤◌, ◌<◌}
 use native.Mathlib.Nat.{zero-add, add_assoc}
 use native.Mathlib.Omega.{arith}
 use lib.Dec.{eqb}
-use borrow.Author.Tests.{eqb-true}
+use borrow.Author.Tests.{eq-eqb, eqb-true}
 use lib.ListN.{length, get_or, take, drop, drop_of_length-le}
 use lib.Seq.{slice, drop-cons, take-append-le, take-append-add, drop-append-add}
 use Rattle.cells.specs.Bytes.{joined}
 use Rattle.cells.proofs.Bools.{and_left, and_right}
+use Rattle.entry.specs.Keyed.{fields_of}
+use Rattle.entry.specs.declared.line_key.LineKey.{LineKey}
 use Rattle.book.specs.Asked.{key_widths, are_wide}
 
 -- the first of fields of their lengths has its length, and so have the others
@@ -78,3 +80,9 @@ key_wide a b c d e h =
       supplier_qualified = wide_first _ _ _ _ h4;
       reference_wide = wide_first _ _ _ _ (wide_rest _ _ _ _ h4);
     }
+
+-- and so are those of the key that the code is given
+pub line_key_wide : (k : LineKey) → are_wide key_widths (fields_of k) ≡ true
+unfolding are_wide
+line_key_wide k =
+    rw (eq-eqb (length k.school.now) 10 k.school_wide, eq-eqb (length k.school_qualifier.now) 2 k.school_qualified, eq-eqb (length k.supplier.now) 10 k.supplier_wide, eq-eqb (length k.supplier_qualifier.now) 2 k.supplier_qualified, eq-eqb (length k.reference.now) 10 k.reference_wide) refl
