@@ -1,20 +1,22 @@
 -- A line, or a slip, compared with a key: field by field, and by bytes that tell most keys apart.
 use mathlib.Core.Path.{◌≡◌, ◌∙◌, ap, ap₂, sym, refl}
 use mathlib.Core.Bool.{Bool, true, false, ◌&&◌}
-use mathlib.Core.List.{List, [], ◌++◌, append-nil}
+use mathlib.Core.List.{List, [], ◌∷◌, ◌++◌, append-nil}
 use Prim.Native.Nat.{ℕ, ◌+◌, ◌*◌, ◌^◌, ◌≤◌, ◌<◌}
 use native.Mathlib.Omega.{arith}
 use borrow.Author.Tests.{ne_eqb}
-use lib.ListN.{length, take, drop}
-use lib.Seq.{slice, take-append-le, take-append-add, drop-append-add}
+use lib.ListN.{length}
+use lib.Seq.{slice}
 use Rattle.cells.specs.Bytes.{same, joined}
 use Rattle.cells.specs.Little.{le_bytes}
 use Rattle.cells.proofs.Lists.{other_part, same_parts}
 use Rattle.cells.proofs.Numbers.{words_same}
 use Rattle.cells.proofs.Within.{part_within}
 use Rattle.entry.specs.Stored.{line_width, key_width, slip_width, slip_key_width, key_at, key_is, slip_key_at, slip_is}
-use Rattle.entry.specs.Keyed.{keyed}
+use Rattle.entry.specs.Keyed.{fields_of, keyed}
 use Rattle.entry.specs.declared.line_key.LineKey.{LineKey}
+use Rattle.book.specs.Asked.{key_widths}
+use Rattle.finding.proofs.Wide.{Wide, field_in, line_key_wide}
 
 -- a part of a list in which eight bytes are others than in a key is not the key
 pub told_apart : (s key : List ℕ) (at w place x y : ℕ) → place + 8 ≤ w → le_bytes 8 x ≡ slice (at + place) (at + place + 8) s → x < 256 ^ 8
@@ -54,33 +56,38 @@ abbrev pub party_at : List ℕ → ℕ → List ℕ → List ℕ → Bool
 party_at lines at address qualifier = same (slice at (at + 10) lines) address && same (slice (at + 10) (at + 12) lines) qualifier
 
 -- the line with an index has a key just where its fields stand there
+pub key_fields_law : (lines : List ℕ) (i : ℕ) (a b c d e : List ℕ) → line_width * i + line_width ≤ length lines → Wide a b c d e
+    → key_is lines (joined (a ∷ b ∷ c ∷ d ∷ e ∷ [])) i
+    ≡ party_at lines (line_width * i) a b && (party_at lines (line_width * i + 12) c d && same (slice (line_width * i + 24) (line_width * i + 24 + 10) lines) e)
+unfolding key_is key_at joined
+key_fields_law lines i a b c d e h w =
+    let p : ℕ = line_width * i in
+    let second : p + 12 + 12 ≡ p + 24 = omega arith in
+    party_then lines p 22 a b _ (omega arith) w.school_wide w.school_qualified
+    ∙ rw (party_then lines (p + 12) 10 c d (e ++ []) (omega arith) w.supplier_wide w.supplier_qualified, second, append-nil e) refl
+
+-- so it is for the key that the code is given, whose fields have their lengths
 pub key_stands : (lines : List ℕ) (i : ℕ) (k : LineKey) → line_width * i + line_width ≤ length lines
     → key_is lines (keyed k) i
     ≡ party_at lines (line_width * i) k.school.now k.school_qualifier.now
     && (party_at lines (line_width * i + 12) k.supplier.now k.supplier_qualifier.now && same (slice (line_width * i + 24) (line_width * i + 24 + 10) lines) k.reference.now)
-unfolding key_is key_at joined
 key_stands lines i k h =
-    let p : ℕ = line_width * i in
-    let second : p + 12 + 12 ≡ p + 24 = omega arith in
-    party_then lines p 22 k.school.now k.school_qualifier.now _ (omega arith) k.school_wide k.school_qualified
-    ∙ rw (party_then lines (p + 12) 10 k.supplier.now k.supplier_qualifier.now (k.reference.now ++ []) (omega arith) k.supplier_wide k.supplier_qualified, second, append-nil k.reference.now) refl
+    key_fields_law lines i _ _ _ _ _ h
+    (record {
+      school_wide = k.school_wide;
+      school_qualified = k.school_qualified;
+      supplier_wide = k.supplier_wide;
+      supplier_qualified = k.supplier_qualified;
+      reference_wide = k.reference_wide;
+    })
 
--- what follows the first of two parts of a list
-slice_past : (a rest : List ℕ) (w x y : ℕ) → length a ≡ w → slice (w + x) (w + y) (a ++ rest) ≡ slice x y rest
-slice_past a rest w x y e = rw (← e, take-append-add a rest y, drop-append-add a (take y rest) x) refl
+-- the bytes that tell most keys apart, in the key and in its fields
+module _ (k : LineKey) where
+  school_in : slice 0 8 (keyed k) ≡ slice 0 8 k.school.now
+  school_in = field_in key_widths (fields_of k) 0 0 8 (line_key_wide k) (omega arith) (omega arith)
 
-school_in : (k : LineKey) → slice 0 8 (keyed k) ≡ slice 0 8 k.school.now
-unfolding joined
-school_in k = let e : length k.school.now ≡ 10 = k.school_wide in ap (drop 0) (take-append-le 8 k.school.now _ (omega arith))
-
-reference_in : (k : LineKey) → slice 26 34 (keyed k) ≡ slice 2 10 k.reference.now
-unfolding joined
-reference_in k =
-    slice_past k.school.now _ 10 16 24 k.school_wide
-    ∙ slice_past k.school_qualifier.now _ 2 14 22 k.school_qualified
-    ∙ slice_past k.supplier.now _ 10 4 12 k.supplier_wide
-    ∙ slice_past k.supplier_qualifier.now _ 2 2 10 k.supplier_qualified
-    ∙ ap (slice 2 10) (append-nil k.reference.now)
+  reference_in : slice 26 34 (keyed k) ≡ slice 2 10 k.reference.now
+  reference_in = field_in key_widths (fields_of k) 4 2 10 (line_key_wide k) (omega arith) (omega arith)
 
 -- where eight bytes of a key are others, the line has another key
 module _ (lines : List ℕ) (i x y : ℕ) (k : LineKey) where

@@ -68,6 +68,10 @@ once s rooms rs = by_bookings (Once s) rooms (once_lasts s rooms) rs empty (reco
 pub slip_once : (rooms : Rooms) (rs : List Fit) (s : Key) → length (keep (has_slip s) (bookings rooms empty rs).accepted) ≤ 1
 slip_once rooms rs s = let h = once s rooms rs in rw h.as_many h.most
 
+-- no two slips share a key
+pub distinct_slips : (rooms : Rooms) (rs : List Fit) (s : Key) → length (keep (λ t. same s t.says.slip) (bookings rooms empty rs).book.slips) ≤ 1
+distinct_slips rooms rs s = (once s rooms rs).most
+
 -- the line that a slip names is among these
 abbrev pub HasLine : List Line → Slip → Type 0
 HasLine ls t = found (line_at t.line ls) ≡ true

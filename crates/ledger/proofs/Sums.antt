@@ -7,7 +7,7 @@ use mathlib.Core.List.{List}
 use borrow.Author.Tests.{not-false}
 use Rattle.cells.specs.Bytes.{same}
 use Rattle.cells.proofs.Bools.{split}
-use Rattle.ledger.specs.Lists.{total}
+use Rattle.ledger.specs.Lists.{keep, total}
 use Rattle.ledger.specs.Book.{Key, Line, Slip, Rooms, ordered, filled, extra, is_n, let_go, still_open}
 use Rattle.ledger.specs.Booking.{Fit, order, goods, report, line_at, tests, judge, new_line, arrive, tell, change_line, enter}
 use Rattle.ledger.specs.History.{State, empty, bookings, lines_of, part, records_of, on_order, on_slip}
@@ -87,3 +87,10 @@ module _ (p : Key → Bool) (rooms : Rooms) (rs : List Fit) where
       ≡ total (λ l. filled l + extra l) (lines_of p (bookings rooms empty rs).book.lines)
   unfolding part
   slip_sum = (part_sums p rooms rs).slips ∙ sym (total_same _ _ arrived_is _)
+
+-- what arrived on a key's line is the sum of the slips that name it
+pub arrived_sum : (rooms : Rooms) (rs : List Fit) (k : Key)
+    → total (λ l. l.arrived) (lines_of (same k) (bookings rooms empty rs).book.lines)
+    ≡ total (λ t. t.says.copies) (keep (λ t. same k t.line) (bookings rooms empty rs).book.slips)
+unfolding part
+arrived_sum rooms rs k = (part_sums (same k) rooms rs).arrivals
