@@ -16,8 +16,8 @@
  * Any bytes and any numbers may be handed over; those that are wrong are refused.
  *
  * libwizqamul.a is x86-64 code (ELF, with the System V calling convention, as on Linux), for
- * processors of the level x86-64-v2. It needs three symbols from outside, memcpy, memmove and
- * memset, which every C library has. docs/RULES.md says in full what is said in short here.
+ * processors of the level x86-64-v2. It needs two symbols from outside, memcpy and memset,
+ * which every C library has. docs/RULES.md says in full what is said in short here.
  *
  * Each call returns a struct by value. `answer` is 0 for done, else it tells the reason.
  * A refusal gives its answer and its place, 0 in all other members, and changes nothing

@@ -25,9 +25,9 @@ const COUNT_WIDTH: usize = 2;
 pub const END_WIDTH: usize = KIND_BYTE + COUNT_WIDTH + COUNT_WIDTH;
 
 // How far before the end of a save its counts stand.
-const LINES_BACK: usize = COUNT_WIDTH + COUNT_WIDTH;
+pub const LINES_BACK: usize = COUNT_WIDTH + COUNT_WIDTH;
 
-const SLIPS_BACK: usize = COUNT_WIDTH;
+pub const SLIPS_BACK: usize = COUNT_WIDTH;
 
 pub const SLIP_KIND: u8 = 2;
 
