@@ -29,7 +29,7 @@ trait Entered: Judged {
 
 impl Entered for Order {
     fn enter(order: &ReadRecord<Order>, book: &mut Book, i: usize) -> Booked {
-        enter_order(order, book.lines, book.slips, book.used, i)
+        enter_order(order, book, i)
     }
 }
 
@@ -41,7 +41,7 @@ impl Entered for Goods {
 
 impl Entered for Report {
     fn enter(report: &ReadRecord<Report>, book: &mut Book, i: usize) -> Booked {
-        enter_report(report, book.lines, book.slips, book.used, i)
+        enter_report(report, book, i)
     }
 }
 

@@ -17,17 +17,6 @@ pub struct Book<'a> {
     pub used: &'a mut [usize; 2],
 }
 
-// Whether a line was ordered under an article.
-#[tactic(auto, unfolding(book::specs::Booking::agreed_at))]
-pub fn agreed(line: StoredLine, article: &[u8]) -> u64
-    ensures { result ≡ agreed_at line.entry.lines.now article.now line.entry.index }
-{
-    if line.article_is(article) {
-        return AGREED;
-    }
-    NOT_AGREED
-}
-
 impl<'a> Book<'a> {
     ghost use Rattle.entering.specs.Held.{held};
     ghost use Rattle.finding.specs.Seen.{seen};
@@ -45,17 +34,19 @@ impl<'a> Book<'a> {
     }
 
     // Whether the line with an index was ordered under an article.
+    #[tactic(auto, unfolding(book::specs::Booking::agreed_at))]
     pub fn agreed(&self, i: usize, article: &[u8]) -> u64
         requires { line_width * i + line_width ≤ length self.now.lines.now }
         ensures { result ≡ agreed_at self.now.lines.now article.now i }
     {
-        agreed(
-            StoredLine {
-                lines: self.lines,
-                index: i,
-            },
-            article,
-        )
+        let line = StoredLine {
+            lines: self.lines,
+            index: i,
+        };
+        if line.article_is(article) {
+            return AGREED;
+        }
+        NOT_AGREED
     }
 
     // A sound book, to be read.
