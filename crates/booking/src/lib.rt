@@ -9,8 +9,8 @@ ghost use Rattle.entering.specs.Held.{held, SameRooms};
 ghost use Rattle.booking.specs.Fits.{Fits};
 
 use book::answer::{Booked, Refused};
-use entering::held::Book;
-use entering::{enter_goods, enter_order, enter_report};
+use entering::enter_goods;
+use entering::held::{Book, enter_order, enter_report};
 use finding::seek::is_sound;
 use judging::judge::{Judged, judge};
 use naming::kinds::{Goods, Order, Report};

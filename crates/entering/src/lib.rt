@@ -1,16 +1,16 @@
 // A record entered, once the book has said where it fits: straight-line code.
 #![tactic(auto)]
 
-ghost use Rattle.std.specs.Prelude.{◌≡◌, ◌+◌, ◌*◌, ◌≤◌, ◌<◌, length, get_or};
+ghost use Rattle.std.specs.Prelude.{ℕ, ◌≡◌, ◌+◌, ◌*◌, ◌≤◌, ◌<◌, List, length, get_or};
 ghost use Rattle.entry.specs.Line.{new_line};
 ghost use Rattle.entry.specs.Stored.{line_width, slip_width, most_arrived, line_at};
-ghost use Rattle.book.specs.Lent.{most_lines, most_slips};
+ghost use Rattle.book.specs.Lent.{most_lines, most_slips, lent};
 ghost use Rattle.book.specs.Booking.{copies_in, mark_in, message_in, outcome, entered_as};
-ghost use Rattle.entering.specs.Held.{held, SameRooms};
+ghost use Rattle.entering.specs.Held.{held, one_line_more, SameRooms};
 
 pub mod held;
 
-use crate::held::Book;
+use crate::held::{Book, agreed};
 use book::answer::{AGREED, Booked, Told};
 use cells::{bytes_at, part};
 use entry::line::{Line, Mark};
@@ -24,6 +24,7 @@ use record::places::{
 use rules::amount::Copies;
 use rules::expected::Expected;
 use rules::number::number_of;
+use stored::line::StoredLine;
 use stored::write::{write_arrived, write_new_line, write_report, write_slip};
 
 // The mark that holds an order open.
@@ -65,22 +66,44 @@ fn message_in(report: &ReadRecord<Report>) -> Message
     Message::Numbered(number_of(&bytes_at::<MESSAGE_WIDTH>(report.bytes, MESSAGE)))
 }
 
-// An accepted order adds a line.
+// One more line is used.
+fn use_line(used: &mut [usize; 2])
+    requires { get_or used.old 0 0 < most_lines }
+    ensures { used.new ≡ one_line_more used.old }
+{
+    used[0] += 1;
+}
+
+// The line of an accepted order, in any book: its slips stay, and one more line is used.
 #[tactic(auto, unfolding(book::specs::Booking::entered_as, book::specs::Booking::line_after, book::specs::Booking::agreed_as, book::specs::Booking::lent_after, book::specs::Lent::used_lines), using(crate::proofs::Entered::told))]
-pub fn enter_order(order: &ReadRecord<Order>, book: &mut Book, i: usize) -> Booked
-    requires { (line_width * i + line_width ≤ length book.old.lines.now) × (get_or book.old.used.now 0 0 < most_lines) }
-    ensures entered { outcome result (held book.new) ≡ entered_as Kind.Order order.now.bytes.now (held book.old) i }
-    ensures same { SameRooms book.old book.new }
+fn enter_order_line(order: &ReadRecord<Order>, lines: &mut [u8], i: usize) -> Booked
+    requires { line_width * i + line_width ≤ length lines.old }
+    ensures { (slips used : List ℕ) → outcome result (lent lines.new slips (one_line_more used)) ≡ entered_as Kind.Order order.now.bytes.now (lent lines.old slips used) i }
 {
     write_new_line(
-        book.lines,
+        lines,
         i,
         part(order.bytes, SENDER, PARTIES_END),
         part(order.bytes, ORDER_REFERENCE, ORDER_QUANTITY),
         order.copies,
     );
-    book.used[0] += 1;
     Told::from(new_line(order.copies)).with_agreed(AGREED)
+}
+
+// An accepted order adds a line. It writes the lines and the used counts alone, so the slips are lent to be read.
+pub fn enter_order(
+    order: &ReadRecord<Order>,
+    lines: &mut [u8],
+    slips: &[u8],
+    used: &mut [usize; 2],
+    i: usize,
+) -> Booked
+    requires { (line_width * i + line_width ≤ length lines.old) × (get_or used.old 0 0 < most_lines) }
+    ensures { outcome result (lent lines.new slips.now used.new) ≡ entered_as Kind.Order order.now.bytes.now (lent lines.old slips.now used.old) i }
+{
+    let said = enter_order_line(order, lines, i);
+    use_line(used);
+    said
 }
 
 // An accepted delivery adds a slip, and its copies to its line.
@@ -99,18 +122,32 @@ pub fn enter_goods(goods: &ReadRecord<Goods>, book: &mut Book, i: usize) -> Book
     Told::from(l).with_agreed(same_article)
 }
 
-// An accepted report sets the mark, the message and the expected date.
+// The line of an accepted report, in any book: its slips and its used counts stay.
 #[tactic(auto, unfolding(book::specs::Booking::entered_as, book::specs::Booking::line_after, book::specs::Booking::agreed_as, book::specs::Booking::lent_after), using(crate::proofs::Entered::told))]
-pub fn enter_report(report: &ReadRecord<Report>, book: &mut Book, i: usize) -> Booked
-    requires { line_width * i + line_width ≤ length book.old.lines.now }
-    ensures entered { outcome result (held book.new) ≡ entered_as Kind.Report report.now.bytes.now (held book.old) i }
-    ensures same { SameRooms book.old book.new }
+fn enter_report_line(report: &ReadRecord<Report>, lines: &mut [u8], i: usize) -> Booked
+    requires { line_width * i + line_width ≤ length lines.old }
+    ensures { (slips used : List ℕ) → outcome result (lent lines.new slips used) ≡ entered_as Kind.Report report.now.bytes.now (lent lines.old slips used) i }
 {
-    let same_article = book.agreed(i, Report::article(report.bytes));
+    let line = StoredLine { lines, index: i };
+    let same_article = agreed(line, Report::article(report.bytes));
     let mark = mark_in(report);
     let message = message_in(report);
     let date = bytes_at(report.bytes, EXPECTED);
-    let l = book.line(i).with_report(mark, message, expected_date(date));
-    write_report(book.lines, i, mark, message, date);
+    let l = line.read().with_report(mark, message, expected_date(date));
+    write_report(lines, i, mark, message, date);
     Told::from(l).with_agreed(same_article)
+}
+
+// An accepted report sets the mark, the message and the expected date. It writes the lines alone.
+pub fn enter_report(
+    report: &ReadRecord<Report>,
+    lines: &mut [u8],
+    slips: &[u8],
+    used: &[usize; 2],
+    i: usize,
+) -> Booked
+    requires { line_width * i + line_width ≤ length lines.old }
+    ensures { outcome result (lent lines.new slips.now used.now) ≡ entered_as Kind.Report report.now.bytes.now (lent lines.old slips.now used.now) i }
+{
+    enter_report_line(report, lines, i)
 }
