@@ -1,7 +1,11 @@
 // The parts of a bundle, printed with their values, and the record written back from them.
 #![tactic(auto)]
 
-use cells::part;
+ghost use Rattle.std.specs.Prelude.{◌≡◌, OnOk};
+ghost use Rattle.std.specs.Io.KnownBytes.{Appends};
+ghost use Rattle.shown_parts.specs.Shown.{how_written, written_line};
+
+use cells::{part, same};
 use lent_parts::entries::LentParts;
 use packing::write_parts;
 use parts::entry::PART_WIDTH;
@@ -53,22 +57,33 @@ fn show_part<W: Write>(out: &mut W, p: &Part) -> io::Result<()> {
     show_article(out, &p.article)
 }
 
-// Whether what was written into `copy` is the record again.
+// How a record was written into `copy`: refused, as the record's bytes again, or as others.
+#[tactic(auto, unfolding(crate::specs::Shown::how_written))]
+fn how_written(written: Written, copy: &[u8; MOST_BYTES], record: &[u8]) -> &'static str
+    ensures { result.now ≡ how_written written copy.now «record».now }
+{
+    if written.answer != 0 {
+        "refused"
+    } else if same(part(copy, 0, written.length), record) {
+        "written back"
+    } else {
+        "written otherwise"
+    }
+}
+
+// A line that tells what was written and whether it is the record again.
+#[tactic(auto, unfolding(crate::specs::Shown::written_line))]
 pub fn show_written<W: Write>(
     out: &mut W,
     what: &str,
     written: Written,
     copy: &[u8; MOST_BYTES],
     record: &[u8],
-) -> io::Result<()> {
-    let how = if written.answer != 0 {
-        "refused"
-    } else if part(copy, 0, written.length) == record {
-        "written back"
-    } else {
-        "written otherwise"
-    };
-    writeln!(out, "  {what} {how}")
+) -> io::Result<()>
+    ensures { OnOk result (Appends (W.contents out.old) (W.contents out.new)
+        (written_line what.now (how_written written copy.now «record».now))) }
+{
+    writeln!(out, "  {what} {}", how_written(written, copy, record))
 }
 
 // The record written back from the fields before its parts, and from these.
